@@ -1,0 +1,42 @@
+// The inverse cipher, FIPS 197 section 5.3, over a key schedule that is given.
+use super::state;
+use super::state::Columns;
+ghost use mathlib.Core.Path.{_≡_};
+ghost use Rattle.aes.specs.Words.{columnsOf};
+ghost use Prim.Native.Nat.{_<_};
+ghost use Rattle.fips197.specs.SBox.{invSBoxTable};
+ghost use Rattle.fips197.specs.Cipher.{invRound, invLastRound, invCipher};
+
+fn inv_round(inv_sbox: &[u8; 256], w: &[u8; 176], n: usize, s: Columns) -> Columns
+    requires { ⌜ now «inv_sbox» ≡ invSBoxTable ⌝ }
+    requires { ⌜ n < 11 ⌝ }
+    ensures { λ r. ⌜ columnsOf r ≡ invRound (now (w .entry)) n (columnsOf s) ⌝ }
+{
+    let shifted = state::inv_shift_rows(s);
+    let substituted = state::sub_bytes(inv_sbox, shifted);
+    let added = state::add_round_key(w, n, substituted);
+    state::inv_mix_columns(added)
+}
+
+fn inv_last_round(inv_sbox: &[u8; 256], w: &[u8; 176], s: Columns) -> Columns
+    requires { ⌜ now «inv_sbox» ≡ invSBoxTable ⌝ }
+    ensures { λ r. ⌜ columnsOf r ≡ invLastRound (now (w .entry)) (columnsOf s) ⌝ }
+{
+    let shifted = state::inv_shift_rows(s);
+    let substituted = state::sub_bytes(inv_sbox, shifted);
+    state::add_round_key(w, 0, substituted)
+}
+
+pub fn inv_cipher(inv_sbox: &[u8; 256], w: &[u8; 176], block: [u8; 16]) -> [u8; 16]
+    requires { ⌜ now «inv_sbox» ≡ invSBoxTable ⌝ }
+    ensures { λ r. ⌜ r ≡ invCipher (now (w .entry)) block ⌝ }
+{
+    let mut s = state::add_round_key(w, 10, state::columns_of(block));
+    let mut n = 9;
+    while 0 < n {
+        let next = inv_round(inv_sbox, w, n, s);
+        s = next;
+        n -= 1;
+    }
+    state::block(inv_last_round(inv_sbox, w, s))
+}

@@ -1,0 +1,42 @@
+// The cipher, FIPS 197 section 5.1, over a key schedule that is given.
+use super::state;
+use super::state::Columns;
+ghost use mathlib.Core.Path.{_≡_};
+ghost use Rattle.aes.specs.Words.{columnsOf};
+ghost use Prim.Native.Nat.{_<_};
+ghost use Rattle.fips197.specs.SBox.{sBoxTable};
+ghost use Rattle.fips197.specs.Cipher.{round, lastRound, cipher};
+
+fn round(sbox: &[u8; 256], w: &[u8; 176], n: usize, s: Columns) -> Columns
+    requires { ⌜ now sbox ≡ sBoxTable ⌝ }
+    requires { ⌜ n < 11 ⌝ }
+    ensures { λ r. ⌜ columnsOf r ≡ round (now (w .entry)) n (columnsOf s) ⌝ }
+{
+    let substituted = state::sub_bytes(sbox, s);
+    let shifted = state::shift_rows(substituted);
+    let mixed = state::mix_columns(shifted);
+    state::add_round_key(w, n, mixed)
+}
+
+fn last_round(sbox: &[u8; 256], w: &[u8; 176], s: Columns) -> Columns
+    requires { ⌜ now sbox ≡ sBoxTable ⌝ }
+    ensures { λ r. ⌜ columnsOf r ≡ lastRound (now (w .entry)) (columnsOf s) ⌝ }
+{
+    let substituted = state::sub_bytes(sbox, s);
+    let shifted = state::shift_rows(substituted);
+    state::add_round_key(w, 10, shifted)
+}
+
+pub fn cipher(sbox: &[u8; 256], w: &[u8; 176], block: [u8; 16]) -> [u8; 16]
+    requires { ⌜ now sbox ≡ sBoxTable ⌝ }
+    ensures { λ r. ⌜ r ≡ cipher (now (w .entry)) block ⌝ }
+{
+    let mut s = state::add_round_key(w, 0, state::columns_of(block));
+    let mut n = 0;
+    while n < 9 {
+        n += 1;
+        let next = round(sbox, w, n, s);
+        s = next;
+    }
+    state::block(last_round(sbox, w, s))
+}

@@ -1,0 +1,4 @@
+pub mod Judge
+pub mod Stretch
+pub mod Forgets
+pub mod Examples

@@ -1,0 +1,5 @@
+pub mod Machine
+pub mod Striking
+pub mod Stretch
+pub mod Claim
+pub mod Examples

@@ -1,0 +1,1 @@
+// No functions: demand 3 for every machine is definitions (specs/) and theorems (proofs/).

@@ -1,0 +1,31 @@
+-- Demand 3 of the request: damage is forgotten. The striking and the three parts of the claim are the crate forget's, for any machine; here they
+-- are applied to the tag, from any image that loads and for every list of power-ons, selections and frames with well-sized buffers.
+--
+--     DamageForgotten       the claim
+--     rebuilt               a box from its stored and its fleeting part: no stored part is left out of the comparison
+--
+-- Assumes nothing.
+use mathlib.Core.Path.{_≡_}
+use mathlib.Core.List.{List}
+use Prim.Native.Nat.{ℕ}
+use Rattle.forget.specs.Machine.{Every}
+use Rattle.forget.specs.Claim.{Forgets}
+use Rattle.model.specs.declared.State.{State}
+use Rattle.model.specs.Image.{load}
+use Rattle.model.specs.Calls.{Box, Call, Stored, storedOf, tagMachine, Bytes, Fit, loadedBox}
+
+-- the image i is loaded into a store s with answer 0; then any list of calls
+abbrev pub DamageForgotten : Type 0
+DamageForgotten =
+    (i s : List ℕ) → Bytes i → load i s .number ≡ 0 → (calls : List Call) → Every Fit calls
+    → Forgets tagMachine (loadedBox i s) calls
+
+-- a box is its stored part, its state and its challenge, and nothing else
+abbrev pub rebuilt : Stored → State → List ℕ → Box
+rebuilt d st ch = record {
+  tag = record { counters = d .counters; failed = d .failed; originality = d .originality; state = st; challenge = ch };
+  store = d .pages;
+}
+
+abbrev pub NothingLeftOut : Type 0
+NothingLeftOut = (b : Box) → rebuilt (storedOf b) (b .tag .state) (b .tag .challenge) ≡ b

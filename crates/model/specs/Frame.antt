@@ -1,0 +1,188 @@
+-- Document 01, "What the box plays": a frame, from the record, store, frame, random block and buffer length to the number, reply, record and store.
+--
+--     misfit ..               number 10: a wrong buffer, or a record that no tag can have
+--     commandNumber, commandDone    each command's own checks, and what it does where none applies
+--     notDone ..              what a number other than 0 leaves behind
+--     commanded ..            what a command comes to
+--     frameNumber ..          the number of a frame: the lowest check in document 01's order wins
+--     decide ..               what a frame comes to
+--     Said                    a reply with its bytes: document 01's silence, a nibble, or bytes with CRC_A
+--     Outcome                 number, reply, record and store after a call
+--     frame ..                the call
+--
+-- Assumes nothing.
+use mathlib.Core.List.{List, [], _∷_}
+use mathlib.Core.Bool.{Bool, true, false, not, _&&_, _||_, cond}
+use Prim.Native.Nat.{ℕ, zero, suc, _+_, _*_}
+use lib.Dec.{ltb, eqb}
+use lib.ListN.{length, getD, set}
+use lib.Seq.{sets}
+use Rattle.crc.specs.CrcA.{withCrc}
+use Rattle.model.specs.declared.Map.{Map}
+use Rattle.model.specs.declared.Tag.{Tag}
+use Rattle.model.specs.declared.State.the-variants.{Waiting}
+use Rattle.model.specs.declared.Quad.{Quad}
+use Rattle.model.specs.declared.Command.{Command}
+use Rattle.model.specs.declared.Command.the-variants.{Read, FastRead, Write, ReadCnt, IncrCnt, Authenticate, Proof, Halt}
+use Rattle.model.specs.declared.Told.{Told}
+use Rattle.model.specs.declared.Told.the-variants.{Known, Nothing}
+use Rattle.model.specs.declared.Effect.{Effect}
+use Rattle.model.specs.declared.Effect.the-variants.{Keep, Page, Counter, Failed}
+use Rattle.model.specs.declared.Say as say
+use Rattle.model.specs.declared.Say.{Say}
+use Rattle.model.specs.declared.Reply as reply
+use Rattle.model.specs.declared.Reply.{Reply}
+use Rattle.model.specs.declared.Decision.{Decision}
+use Rattle.model.specs.Map.{mf0aes20, storeSize, replySize}
+use Rattle.model.specs.Record.{zeros, isWaiting, counter, possible}
+use Rattle.model.specs.Numbers.{numberIf, first, kept, refused, answered, acknowledged}
+use Rattle.model.specs.Telling.{damaged, told, toldNumber}
+use Rattle.model.specs.Reading.{readNumber, fastReadNumber, readWindow, fastRange, shownPages}
+use Rattle.model.specs.Writing.{writeNumber, quad, written}
+use Rattle.model.specs.Counters.{lowFirst, readCntNumber, increment, incrCntNumber}
+use Rattle.model.specs.Authentication.{raised, challengeNumber, challenged, proofNumber, proved}
+
+-- number 10 for a frame: room is the reply buffer's length
+unfoldable pub misfit : Map → Tag → List ℕ → List ℕ → ℕ → Bool
+misfit m tag s random room =
+    not (eqb (length s) (storeSize m)) || ltb room (replySize m) || not (eqb (length random) 16) || not (possible tag)
+
+-- the four bytes of a frame behind its code and its page or counter number
+abbrev pub data4 : List ℕ → Quad
+data4 f = quad (getD f 2 0) (getD f 3 0) (getD f 4 0) (getD f 5 0)
+
+-- numbers 5 and on
+unfoldable pub commandNumber : Command → Map → Tag → List ℕ → List ℕ → ℕ
+commandNumber Read m tag s f = readNumber m (tag .state) s (getD f 1 0)
+commandNumber FastRead m tag s f = fastReadNumber m (tag .state) s (getD f 1 0) (getD f 2 0)
+commandNumber Write m tag s f = writeNumber m (tag .state) s (getD f 1 0) (data4 f)
+commandNumber ReadCnt m tag s f = readCntNumber m (tag .state) s (getD f 1 0)
+commandNumber IncrCnt m tag s f = incrCntNumber m tag s (getD f 1 0) (data4 f)
+commandNumber Authenticate m tag s f = challengeNumber m tag s (getD f 1 0)
+commandNumber Proof m tag s f = proofNumber m tag s f
+commandNumber Halt m tag s f = numberIf (not (eqb (getD f 1 0) 0)) 5
+
+-- HLTA done leaves WAITING, with silence
+unfoldable pub halted : Decision
+halted = record {
+  number = 0;
+  effect = Keep;
+  say = say.the-variants.Silence;
+  block = zeros;
+  state = Waiting;
+  challenge = zeros;
+}
+
+unfoldable pub commandDone : Command → Map → Tag → List ℕ → List ℕ → List ℕ → Decision
+commandDone Read m tag s f random = answered tag (say.the-variants.Window (getD f 1 0))
+commandDone FastRead m tag s f random = answered tag (say.the-variants.Range (getD f 1 0) (getD f 2 0))
+commandDone Write m tag s f random = acknowledged tag (Page (getD f 1 0) (written m s (getD f 1 0) (data4 f)))
+commandDone ReadCnt m tag s f random = answered tag (say.the-variants.Count (getD f 1 0))
+commandDone IncrCnt m tag s f random =
+    acknowledged tag (Counter (getD f 1 0) (counter tag (getD f 1 0) + increment (data4 f)))
+commandDone Authenticate m tag s f random = challenged m tag s (getD f 1 0) random
+commandDone Proof m tag s f random = proved m tag s f
+commandDone Halt m tag s f random = halted
+
+-- 1 and 10 change nothing; 8 raises the count where 8.6.5 says so; every other number but 0 ends the session and nothing else
+unfoldable pub notDone : Map → Tag → List ℕ → ℕ → Decision
+notDone m tag s n = cond (eqb n 1 || eqb n 10) (kept n tag) (refused n (cond (eqb n 8) (raised m tag s) Keep))
+
+abbrev pub concluded : ℕ → Map → Tag → List ℕ → Decision → Decision
+concluded zero m tag s d = d
+concluded (suc n) m tag s d = notDone m tag s (suc n)
+
+-- what a command comes to: its own checks, and what it does where none applies
+unfoldable pub commanded : Command → Map → Tag → List ℕ → List ℕ → List ℕ → Decision
+commanded c m tag s f random = concluded (commandNumber c m tag s f) m tag s (commandDone c m tag s f random)
+
+-- the same for what the code tells; a code that tells nothing is refused before
+abbrev pub toldCommandNumber : Told → Map → Tag → List ℕ → List ℕ → ℕ
+toldCommandNumber (Known c k) m tag s f = commandNumber c m tag s f
+toldCommandNumber Nothing m tag s f = 0
+
+abbrev pub toldDone : Told → Map → Tag → List ℕ → List ℕ → List ℕ → Decision
+toldDone (Known c k) m tag s f random = commandDone c m tag s f random
+toldDone Nothing m tag s f random = halted
+
+-- 10, 1, 2, 3, 4 and then the command's own
+unfoldable pub frameNumber : Map → Tag → List ℕ → List ℕ → List ℕ → ℕ → ℕ
+frameNumber m tag s f random room =
+    first (numberIf (misfit m tag s random room) 10)
+    (first (numberIf (isWaiting (tag .state)) 1)
+    (first (numberIf (damaged f) 2)
+    (first (toldNumber (told (getD f 0 0)) (tag .state) (length f)) (toldCommandNumber (told (getD f 0 0)) m tag s f))))
+
+unfoldable pub decide : Map → Tag → List ℕ → List ℕ → List ℕ → ℕ → Decision
+decide m tag s f random room = concluded (frameNumber m tag s f random room) m tag s (toldDone (told (getD f 0 0)) m tag s f random)
+
+-- a reply with all that it carries
+pub data Said : Type 0 where
+  silence : Said
+  nibble : ℕ → Said
+  bytes : List ℕ → Said
+
+-- data goes out with its CRC_A, low byte first; what is read is the memory before the frame
+unfoldable pub saidOf : Map → Tag → List ℕ → List ℕ → Say → Said
+saidOf m tag s block say.the-variants.Silence = silence
+saidOf m tag s block (say.the-variants.Nibble n) = nibble n
+saidOf m tag s block (say.the-variants.Window p) = bytes (withCrc (shownPages m (tag .state) s (readWindow p)))
+saidOf m tag s block (say.the-variants.Range p q) = bytes (withCrc (shownPages m (tag .state) s (fastRange p q)))
+saidOf m tag s block (say.the-variants.Count n) = bytes (withCrc (lowFirst 3 (counter tag n)))
+saidOf m tag s block (say.the-variants.Block b) = bytes (withCrc (b ∷ block))
+
+-- the one definition that stores: at most one page, counter or count
+unfoldable pub countersAfter : List ℕ → Effect → List ℕ
+countersAfter cs Keep = cs
+countersAfter cs (Page p q) = cs
+countersAfter cs (Counter n v) = set cs n v
+countersAfter cs (Failed v) = cs
+
+unfoldable pub failedAfter : ℕ → Effect → ℕ
+failedAfter c Keep = c
+failedAfter c (Page p q) = c
+failedAfter c (Counter n v) = c
+failedAfter c (Failed v) = v
+
+unfoldable pub storeAfter : List ℕ → Effect → List ℕ
+storeAfter s Keep = s
+storeAfter s (Page p q) = sets s (4 * p) (q .a ∷ q .b ∷ q .c ∷ q .d ∷ [])
+storeAfter s (Counter n v) = s
+storeAfter s (Failed v) = s
+
+unfoldable pub tagAfter : Tag → Decision → Tag
+tagAfter tag d = record {
+  counters = countersAfter (tag .counters) (d .effect);
+  failed = failedAfter (tag .failed) (d .effect);
+  originality = tag .originality;
+  state = d .state;
+  challenge = d .challenge;
+}
+
+pub record Outcome : Type 0 where
+  pub number : ℕ
+  pub said : Said
+  pub tag : Tag
+  pub store : List ℕ
+
+abbrev pub outcome : Map → Tag → List ℕ → Decision → Outcome
+outcome m tag s d = record {
+  number = d .number;
+  said = saidOf m tag s (d .block) (d .say);
+  tag = tagAfter tag d;
+  store = storeAfter s (d .effect);
+}
+
+unfoldable pub frame : Tag → List ℕ → List ℕ → List ℕ → ℕ → Outcome
+frame tag s f random room = outcome mf0aes20 tag s (decide mf0aes20 tag s f random room)
+
+-- the reply as the call hands it back, and the reply buffer after it: only the bytes said are written
+abbrev pub replyOf : Said → Reply
+replyOf silence = reply.the-variants.Silence
+replyOf (nibble n) = reply.the-variants.Nibble n
+replyOf (bytes bs) = reply.the-variants.Bytes (length bs)
+
+abbrev pub laidOver : List ℕ → Said → List ℕ
+laidOver buffer silence = buffer
+laidOver buffer (nibble n) = buffer
+laidOver buffer (bytes bs) = sets buffer 0 bs

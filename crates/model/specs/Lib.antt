@@ -1,0 +1,21 @@
+-- The tag, as document 01 and 009 define it, in document 01's order. docs/DATASHEET.md has the values, docs/DECISIONS.md the open points.
+pub mod Map
+pub mod Settings
+pub mod Record
+pub mod Numbers
+pub mod Telling
+pub mod Reading
+pub mod Writing
+pub mod Counters
+pub mod Authentication
+pub mod Frame
+pub mod Image
+pub mod Demand1
+pub mod Calls
+pub mod Demand3
+pub mod FieldClaims
+pub mod CallClaims
+pub mod ImageClaims
+pub mod CaseImages
+pub mod Cases
+pub mod Struck

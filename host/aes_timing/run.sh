@@ -1,0 +1,8 @@
+#!/bin/sh
+# Compares the proved AES-128 with plain Rust and times both, from any folder. Its last line counts the comparisons.
+set -eu
+cd "$(dirname "$0")/../.."
+mkdir -p target/host
+rt staticlib aes_c >target/host/aes_c.log 2>&1 || { cat target/host/aes_c.log; exit 1; }
+rustc --edition 2021 -O -D warnings -L native=target/staticlib -l static=aes_c -o target/host/aes_timing host/aes_timing/main.rs
+target/host/aes_timing
