@@ -14,7 +14,7 @@ use mathlib.Core.List.{List, [], _∷_, _++_}
 use Prim.Native.Nat.{ℕ, _+_}
 use lib.ListN.{getD}
 use Rattle.fips197.specs.Field.{product}
-use Rattle.fips197.specs.State.{at, state, columnByte}
+use Rattle.fips197.specs.State.{at, state, columnByte, mixing, unmixing}
 use Rattle.fips197.specs.KeyExpansion.{word}
 use Rattle.aes.specs.declared.words.Word.{Word}
 use Rattle.aes.specs.declared.state.Columns.{Columns}
@@ -38,10 +38,10 @@ subBytesBy table s = state (λ r c. getD table (at s r c) 0)
 
 -- a word is a state of one column
 abbrev pub mixWord : List ℕ → List ℕ
-mixWord u = word (λ r. columnByte (0x02 ∷ 0x01 ∷ 0x01 ∷ 0x03 ∷ []) u r 0)
+mixWord u = word (λ r. columnByte mixing u r 0)
 
 abbrev pub invMixWord : List ℕ → List ℕ
-invMixWord u = word (λ r. columnByte (0x0e ∷ 0x09 ∷ 0x0d ∷ 0x0b ∷ []) u r 0)
+invMixWord u = word (λ r. columnByte unmixing u r 0)
 
 abbrev pub multiplesOf : Multiples → List ℕ
 multiplesOf m = m .by_9 ∷ m .by_11 ∷ m .by_13 ∷ m .by_14 ∷ []

@@ -1,7 +1,7 @@
 -- The key schedule: its length, its bytes, and how it grows.
 --
 --   append-bytes             two lists of bytes, one after the other, are bytes
---   word-length, word-bytes  a word is four numbers; of bytes, if its parts are
+--   nextWord-length          a word is four numbers
 --   added-within             inside a round key the word before is added as it is
 --   nextWord-take            the next word depends only on the words before it
 --   expand-length            the key and n words are 16 + 4n bytes long

@@ -14,7 +14,7 @@ use Rattle.bits.proofs.Bit.{xor-byte}
 use Rattle.bits.proofs.Xor.{xor-cancel}
 use Rattle.fips197.specs.Field.{_xor_, xtime, productOf, product}
 use Rattle.fips197.specs.SBox.{sBox, invSBox}
-use Rattle.fips197.specs.State.{at, state, IsBlock, subBytes, invSubBytes, shiftRows, invShiftRows, columnByte, mixColumns, invMixColumns, keyByte, addRoundKey}
+use Rattle.fips197.specs.State.{at, state, IsBlock, subBytes, invSubBytes, shiftRows, invShiftRows, columnByte, mixing, mixColumns, unmixing, invMixColumns, keyByte, addRoundKey}
 use Rattle.fips197.specs.Claims.{Undoes, Inverses, StepsInvert}
 use Rattle.fips197.proofs.Field.{product-byte}
 use Rattle.fips197.proofs.SBox.{sBox-byte, invSBox-byte, invSBox-inverts}
@@ -47,8 +47,8 @@ shiftRows-inverts = (λ s block. state-at s (block .sixteen), λ s block. state-
 pub mixColumns-inverts : Inverses mixColumns invMixColumns
 unfolding mixColumns invMixColumns product productOf xtime
 mixColumns-inverts = (
-  columns-undo (0x0e ∷ 0x09 ∷ 0x0d ∷ 0x0b ∷ []) (0x02 ∷ 0x01 ∷ 0x01 ∷ 0x03 ∷ []) tt,
-  columns-undo (0x02 ∷ 0x01 ∷ 0x01 ∷ 0x03 ∷ []) (0x0e ∷ 0x09 ∷ 0x0d ∷ 0x0b ∷ []) tt,
+  columns-undo unmixing mixing tt,
+  columns-undo mixing unmixing tt,
 )
 
 addRoundKey-undoes : (w : List ℕ) (n : ℕ) → Undoes (addRoundKey w n) (addRoundKey w n)
@@ -95,11 +95,11 @@ columns-block m s block =
 
 pub mixColumns-block : (s : List ℕ) → IsBlock s → IsBlock (mixColumns s)
 unfolding mixColumns
-mixColumns-block = columns-block (0x02 ∷ 0x01 ∷ 0x01 ∷ 0x03 ∷ [])
+mixColumns-block = columns-block mixing
 
 pub invMixColumns-block : (s : List ℕ) → IsBlock s → IsBlock (invMixColumns s)
 unfolding invMixColumns
-invMixColumns-block = columns-block (0x0e ∷ 0x09 ∷ 0x0d ∷ 0x0b ∷ [])
+invMixColumns-block = columns-block unmixing
 
 pub addRoundKey-block : (w : List ℕ) → ((i : ℕ) → getD w i 0 < 256) → (n : ℕ) (s : List ℕ) → IsBlock s → IsBlock (addRoundKey w n s)
 unfolding addRoundKey

@@ -1,4 +1,5 @@
--- What is proved of the definitions, each in proofs/ under the name given behind it.
+-- What is proved of the definitions: InverseInverts in proofs/Field.antt, SBoxIsSubByte and InvSBoxInverts in proofs/SBox.antt, StepsInvert in
+-- proofs/Steps.antt, CipherInverts in proofs/Cipher.antt. Assumes nothing.
 use mathlib.Core.Path.{_≡_}
 use mathlib.Core.List.{List}
 use Prim.Native.Nat.{ℕ, _<_}

@@ -4,7 +4,7 @@
 --     state f              the state with f r c in row r and column c               3.4
 --     subBytes s           5.1.1        invSubBytes s        5.3.2
 --     shiftRows s          5.1.2        invShiftRows s       5.3.1
---     mixColumns s         5.1.3        invMixColumns s      5.3.3
+--     mixColumns s         5.1.3        invMixColumns s      5.3.3        each column times the polynomial mixing, unmixing
 --     addRoundKey w n s    5.1.4, and its own inverse, 5.3.4
 --     IsBlock s            s is 16 bytes
 --
@@ -49,13 +49,19 @@ columnByte a s r c =
     product (getD a (r % 4) 0) (at s 0 c) xor product (getD a ((r + 3) % 4) 0) (at s 1 c) xor product (getD a ((r + 2) % 4) 0) (at s 2 c)
     xor product (getD a ((r + 1) % 4) 0) (at s 3 c)
 
--- each column times {03}x³ + {01}x² + {01}x + {02}, 5.1.3
-unfoldable pub mixColumns : List ℕ → List ℕ
-mixColumns s = state (columnByte (0x02 ∷ 0x01 ∷ 0x01 ∷ 0x03 ∷ []) s)
+-- {03}x³ + {01}x² + {01}x + {02}, lowest coefficient first, 5.1.3
+abbrev pub mixing : List ℕ
+mixing = 0x02 ∷ 0x01 ∷ 0x01 ∷ 0x03 ∷ []
 
--- each column times {0b}x³ + {0d}x² + {09}x + {0e}, 5.3.3
+unfoldable pub mixColumns : List ℕ → List ℕ
+mixColumns s = state (columnByte mixing s)
+
+-- {0b}x³ + {0d}x² + {09}x + {0e}, 5.3.3
+abbrev pub unmixing : List ℕ
+unmixing = 0x0e ∷ 0x09 ∷ 0x0d ∷ 0x0b ∷ []
+
 unfoldable pub invMixColumns : List ℕ → List ℕ
-invMixColumns s = state (columnByte (0x0e ∷ 0x09 ∷ 0x0d ∷ 0x0b ∷ []) s)
+invMixColumns s = state (columnByte unmixing s)
 
 -- byte r of word i of the key schedule w, which is a list of bytes, four a word
 abbrev pub keyByte : List ℕ → ℕ → ℕ → ℕ

@@ -16,8 +16,9 @@ use Rattle.model.specs.declared.State.the-variants.{Waiting}
 use Rattle.model.specs.Record.{zeros, exists, counter, highestCounter}
 use Rattle.model.specs.Image.{tagOf, load}
 use Rattle.model.specs.Calls.{Bytes, loadedBox}
+use Rattle.model.specs.ImageClaims.{LoadedWaiting}
 use Rattle.model.specs.Demand3.{DamageForgotten}
-use Rattle.model.specs.FieldClaims.{CountersAddUp, SetBitsStay, nobody, LoginsAreProved, CountInBounds}
+use Rattle.model.specs.FieldClaims.{CountersAddUp, SetBitsStay, unproven, LoginsAreProved, CountInBounds}
 use Rattle.model.proofs.Valid.{Valid}
 use Rattle.model.proofs.Sound.{zeros-block, valid-end}
 use Rattle.model.proofs.Demand3.{forgets-valid}
@@ -33,8 +34,7 @@ low-all tag three b (suc zero) = b .second
 low-all tag three b (suc (suc zero)) = b .third
 low-all tag three b (suc (suc (suc n))) = rw (List·getD-eq-default (tag .counters) 0 {n = suc (suc (suc n))} (omega arith)) (lit≤ tt)
 
--- a loading answered 0 leaves WAITING and no challenge
-loaded-waiting : (i s : List ℕ) → load i s .number ≡ 0 → (load i s .tag .state ≡ Waiting) × (load i s .tag .challenge ≡ zeros)
+pub loaded-waiting : LoadedWaiting
 unfolding tagOf
 loaded-waiting i s e = (ap (λ l. l .tag .state) (load-done i s e), ap (λ l. l .tag .challenge) (load-done i s e))
 
@@ -65,7 +65,7 @@ pub set-bits-stay : SetBitsStay
 set-bits-stay i s h e list fit = bits-list (loadedBox i s) (loaded-valid i s h e) list fit
 
 pub logins-are-proved : LoginsAreProved
-logins-are-proved i s h e list fit = session-list (loadedBox i s) (loaded-valid i s h e) list fit nobody (rw (loaded-waiting i s e .0) tt)
+logins-are-proved i s h e list fit = session-list (loadedBox i s) (loaded-valid i s h e) list fit unproven (rw (loaded-waiting i s e .0) tt)
 
 pub count-in-bounds : CountInBounds
 count-in-bounds i s h e list fit = valid-end (loadedBox i s) (loaded-valid i s h e) list fit .count

@@ -7,7 +7,7 @@
 use mathlib.Core.Path.{_≡_, refl, sym, ap, _∙_}
 use mathlib.Core.List.{List, [], _∷_}
 use mathlib.Core.Bool.{Bool, true, false, _&&_, cond}
-use Prim.Native.Nat.{ℕ, _+_, _-_, _≤_, _<_}
+use Prim.Native.Nat.{_*_, ℕ, _+_, _-_, _≤_, _<_}
 use native.Mathlib.Nat.{add-zero}
 use native.Mathlib.Decide.{ℕ-discrete}
 use native.Mathlib.Omega.{arith}
@@ -46,11 +46,11 @@ added-none n f random room k h = simp (ne-eqb k 0 h)
 added-other : (n : ℕ) (f random : List ℕ) (room k c : ℕ) → getD f 0 0 ≡ c → eqb c (codeOf IncrCnt) ≡ false
     → added n (calls.frame f random room) k ≡ 0
 unfolding added
-added-other n f random room k c e h = rw (e, h) (pick (eqb k 0))
+added-other n f random room k c e h = rw (e, h) (pick (eqb k 0) (getD f 2 0 + 256 * getD f 3 0 + 65536 * getD f 4 0))
   where
-    pick : (t : Bool) → cond (t && false && eqb (getD f 1 0) n) (increment (data4 f)) 0 ≡ 0
-    pick true = refl
-    pick false = refl
+    pick : (t : Bool) (v : ℕ) → cond (t && false && eqb (getD f 1 0) n) v 0 ≡ 0
+    pick true v = refl
+    pick false v = refl
 
 -- a counter after INCR_CNT: the one that was named is raised, the others stay
 raised-counter : (cs : List ℕ) (k v n : ℕ) → k < length cs → getD (set cs k (getD cs k 0 + v)) n 0 ≡ getD cs n 0 + cond (eqb k n) v 0
@@ -65,7 +65,9 @@ raised-counter cs k v n h = pick (ℕ-discrete k n)
 added-incr : (n : ℕ) (f random : List ℕ) (room : ℕ) → getD f 0 0 ≡ codeOf IncrCnt
     → added n (calls.frame f random room) 0 ≡ cond (eqb (getD f 1 0) n) (increment (data4 f)) 0
 unfolding added
-added-incr n f random room code = rw code
+added-incr n f random room code =
+    let three : getD f 2 0 + 256 * getD f 3 0 + 65536 * getD f 4 0 ≡ increment (data4 f) = omega arith in
+    rw (code, three)
 
 -- INCR_CNT is carried out only for a counter that there is
 counter-low : (tag : Tag) (s f : List ℕ) → commandNumber IncrCnt mf0aes20 tag s f ≡ 0 → getD f 1 0 ≤ 2

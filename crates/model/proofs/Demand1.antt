@@ -23,7 +23,8 @@ use Rattle.model.specs.declared.Effect.{Effect}
 use Rattle.model.specs.declared.Effect.the-variants.{Keep, Failed}
 use Rattle.model.specs.Map.{mf0aes20, storeSize}
 use Rattle.model.specs.Settings.{authLimit}
-use Rattle.model.specs.Record.{possible, power, select}
+use Rattle.model.specs.Record as record′
+use Rattle.model.specs.Record.{possible}
 use Rattle.model.specs.Numbers.{numberIf, first, kept, refused}
 use Rattle.model.specs.Telling.{told, toldNumber}
 use Rattle.model.specs.Reading.{readNumber, fastReadNumber}
@@ -32,6 +33,7 @@ use Rattle.model.specs.Counters.{readCntNumber, incrCntNumber}
 use Rattle.model.specs.Authentication.{raised, challengeNumber, proofNumber}
 use Rattle.model.specs.Frame.{commandNumber, toldCommandNumber, frameNumber, notDone, decide, saidOf, countersAfter, failedAfter, storeAfter, tagAfter, outcome, frame}
 use Rattle.model.specs.Image.{imageSize, imageRight, loadNumber, load, saveNumber, save}
+use Rattle.model.specs.Calls.{storedOf, step}
 use Rattle.model.specs.Demand1.{NumberInTable, Ended, RefusalEnds, Unchanged, KeepsAll, PowerKeepsStored, SelectKeepsStored, LoadRefused, SaveRefused}
 use Rattle.model.proofs.Numbers.{numbers-of-frame, decide-number, decide-not, not-done-refused, not-done-kept}
 
@@ -135,12 +137,12 @@ keeps-all tag s f random room h =
 -- ---- the other calls
 
 pub power-keeps-stored : PowerKeepsStored
-unfolding power
-power-keeps-stored tag = (record { counters = refl; failed = refl; originality = refl }, refl, refl)
+unfolding step record′.power storedOf
+power-keeps-stored b = record { number = refl; silent = refl; kept = refl; state = refl; challenge = refl }
 
 pub select-keeps-stored : SelectKeepsStored
-unfolding select
-select-keeps-stored tag = (record { counters = refl; failed = refl; originality = refl }, refl, refl)
+unfolding step record′.select storedOf
+select-keeps-stored b = record { number = refl; silent = refl; kept = refl; state = refl; challenge = refl }
 
 one-of-two : (a b : Bool) → let n = first (numberIf a 10) (numberIf b 12) in (n ≡ 0 → ⊥) → (n ≡ 10) ⊎ (n ≡ 12)
 unfolding first numberIf

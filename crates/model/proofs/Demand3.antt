@@ -1,6 +1,7 @@
 -- Demand 3: the tag keeps the crate forget's laws of single calls, so damage is forgotten.
 --
 --   nothing-left-out     a box is its stored and its fleeting part
+--   wakes-pinned         no frame wakes a waiting tag
 --   tag-laws             the laws, with the valid boxes as the states with power
 --   forgets-valid        damage is forgotten from every valid box
 --
@@ -28,7 +29,7 @@ use Rattle.model.specs.Frame.{Said, silence, frameNumber, decide, Outcom
 use Rattle.model.specs.Calls as calls
 use Rattle.model.specs.Calls.{Box, Call, power, select, Stored, storedOf, boundary, refuses, tagMachine, Fit, step}
 use Rattle.model.specs.Demand1.{Ended, Unchanged}
-use Rattle.model.specs.Demand3.{rebuilt, NothingLeftOut}
+use Rattle.model.specs.Demand3.{rebuilt, WakesPinned, NothingLeftOut}
 use Rattle.model.proofs.Demand1.{keeps-all}
 use Rattle.model.proofs.Carried.{waiting-one}
 use Rattle.model.proofs.Valid.{Valid}
@@ -108,6 +109,11 @@ sleeps b f random room v a h =
     ∙ waiting-one mf0aes20 (b .tag) (b .store) f random room (fits-valid b random room v (h .0 .0) (h .0 .1)) a in
     let u = keeps-all (b .tag) (b .store) f random room (inl one) in
     record { uncut = refl; silent = u .silent; kept = λ i. record { tag = u .record′ i; store = u .pages i } }
+
+pub wakes-pinned : WakesPinned
+unfolding step
+wakes-pinned b f random room fits waits =
+    (frame-number b f random room ∙ waiting-one mf0aes20 (b .tag) (b .store) f random room fits waits, refl)
 
 pub tag-laws : Laws tagMachine Fit Valid (λ b. ⊥) Asleep Stored storedOf
 unfolding boundary step

@@ -38,7 +38,7 @@ use Rattle.model.specs.ImageClaims.{WellFormed, Sizes, LoadedWellFormed,
 
 pub sizes : Sizes
 unfolding mf0aes20
-sizes = (refl, refl, refl, refl)
+sizes = (refl, refl, refl, refl, refl, refl, refl, refl)
 
 -- ---- bytes
 

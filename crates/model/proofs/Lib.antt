@@ -16,3 +16,4 @@ pub mod CallClaims
 pub mod Stages
 pub mod Cases
 pub mod Struck
+pub mod Samples

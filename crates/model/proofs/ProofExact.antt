@@ -29,10 +29,10 @@ use Rattle.model.specs.Map.{mf0aes20}
 use Rattle.model.specs.Record.{zeros, isWaiting, keyNumber}
 use Rattle.model.specs.Numbers.{numberIf, first}
 use Rattle.model.specs.Telling.{told, allowed, toldNumber}
-use Rattle.model.specs.Authentication.{pageKey, keyOf, rotated, sameBytes, proofFirst, proofSecond, proofNumber, proved}
-use Rattle.model.specs.Frame.{bytes, commandNumber, commandDone, frameNumber, saidOf, frame}
+use Rattle.model.specs.Authentication.{limitReached, loggedIn, pageKey, keyOf, rotated, sameBytes, proofFirst, proofSecond, proofNumber, proved}
+use Rattle.model.specs.Frame.{bytes, commandNumber, commandDone, frameNumber, saidOf, frame, tagAfter}
 use Rattle.model.specs.Calls.{Bytes}
-use Rattle.model.specs.CallClaims.{Asked, RightProof, ProofExact}
+use Rattle.model.specs.CallClaims.{Asked, RightProof, Proved, ProofExact}
 use Rattle.model.proofs.Numbers.{decide-number, decide-done}
 use Rattle.model.proofs.Carried.{numberIf-zero}
 use Rattle.model.proofs.Sound.{zeros-block}
@@ -113,9 +113,9 @@ module _ (tag : Tag) (k : ℕ) (s f random : List ℕ) (room : ℕ) (h : Asked t
   abbrev right : Bool
   right = sameBytes (proofSecond mf0aes20 tag s f) (rotated (tag .challenge))
 
-  proof-number : frameNumber mf0aes20 tag s f random room ≡ numberIf (not right) 8
+  limit-number : limitReached mf0aes20 tag s ≡ true → frameNumber mf0aes20 tag s f random room ≡ 11
   unfolding frameNumber first numberIf told toldNumber commandNumber proofNumber
-  proof-number = rw (h .fits, awake, h .whole, h .code, permitted, h .long, h .below)
+  limit-number reached = rw (h .fits, awake, h .whole, h .code, permitted, h .long, reached)
 
   proofFirst-is : proofFirst mf0aes20 tag s f ≡ cbcDecipher key zeros (sent₁ f)
   unfolding proofFirst
@@ -125,33 +125,49 @@ module _ (tag : Tag) (k : ℕ) (s f random : List ℕ) (room : ℕ) (h : Asked t
   unfolding proofSecond
   proofSecond-is = rw (h .challenged)
 
-  zero-right : frameNumber mf0aes20 tag s f random room ≡ 0 → RightProof tag k s f (cbcDecipher key zeros (sent₁ f))
-  zero-right z =
-      let same = sameBytes-equal _ _ (not-false right (numberIf-zero (not right) 7 (sym proof-number ∙ z))) in
-      record {
-        block = deciphered-block key zeros key-is zeros-block (sent₁ f) sent₁-is;
-        first = enciphered key zeros key-is zeros-block (sent₁ f) _ sent₁-is refl;
-        second = enciphered key (sent₁ f) key-is sent₁-is (sent₂ f) _ (sent-block f 16 (h .frame′)) (sym proofSecond-is ∙ same);
-      }
+  module _ (below : limitReached mf0aes20 tag s ≡ false) where
+    proof-number : frameNumber mf0aes20 tag s f random room ≡ numberIf (not right) 8
+    unfolding frameNumber first numberIf told toldNumber commandNumber proofNumber
+    proof-number = rw (h .fits, awake, h .whole, h .code, permitted, h .long, below)
 
-  module _ (A : List ℕ) (r : RightProof tag k s f A) where
-    right-zero : frameNumber mf0aes20 tag s f random room ≡ 0
-    unfolding numberIf
-    right-zero =
-        let C = tag .challenge in
-        let same = deciphered key (sent₁ f) key-is sent₁-is (sent₂ f) (rotated C) (rotated-block C (h .challenge)) (r .second) in
-        proof-number ∙ rw (proofSecond-is, same, equal-sameBytes (rotated C))
+    zero-right : frameNumber mf0aes20 tag s f random room ≡ 0 → RightProof tag k s f (cbcDecipher key zeros (sent₁ f))
+    zero-right z =
+        let same = sameBytes-equal _ _ (not-false right (numberIf-zero (not right) 7 (sym proof-number ∙ z))) in
+        record {
+          block = deciphered-block key zeros key-is zeros-block (sent₁ f) sent₁-is;
+          first = enciphered key zeros key-is zeros-block (sent₁ f) _ sent₁-is refl;
+          second = enciphered key (sent₁ f) key-is sent₁-is (sent₂ f) _ (sent-block f 16 (h .frame′)) (sym proofSecond-is ∙ same);
+        }
 
-    right-said : frame tag s f random room .said ≡ bytes (withCrc (0x00 ∷ cbcEncipher key zeros (rotated A)))
-    unfolding frame told commandDone proved saidOf
-    right-said =
-        let same = deciphered key zeros key-is zeros-block (sent₁ f) A (r .block) (r .first) in
-        rw (decide-done mf0aes20 tag s f random room right-zero, h .code, proofFirst-is, same, ap keyNumber (h .challenged))
+    module _ (A : List ℕ) (r : RightProof tag k s f A) where
+      right-zero : frameNumber mf0aes20 tag s f random room ≡ 0
+      unfolding numberIf
+      right-zero =
+          let C = tag .challenge in
+          let same = deciphered key (sent₁ f) key-is sent₁-is (sent₂ f) (rotated C) (rotated-block C (h .challenge)) (r .second) in
+          proof-number ∙ rw (proofSecond-is, same, equal-sameBytes (rotated C))
+
+      right-said : frame tag s f random room .said ≡ bytes (withCrc (0x00 ∷ cbcEncipher key zeros (rotated A)))
+      unfolding frame told commandDone proved saidOf
+      right-said =
+          let same = deciphered key zeros key-is zeros-block (sent₁ f) A (r .block) (r .first) in
+          rw (decide-done mf0aes20 tag s f random room right-zero, h .code, proofFirst-is, same, ap keyNumber (h .challenged))
+
+      right-state : frame tag s f random room .tag .state ≡ loggedIn k
+      unfolding frame tagAfter told commandDone proved
+      right-state = rw (decide-done mf0aes20 tag s f random room right-zero, h .code, ap keyNumber (h .challenged))
 
 pub proof-exact : ProofExact
 unfolding frame
 proof-exact tag k s f random room h =
     let e = decide-number mf0aes20 tag s f random room in (
-      λ z. (_, zero-right tag k s f random room h (sym e ∙ z)),
-      λ A r. (e ∙ right-zero tag k s f random room h A r, right-said tag k s f random room h A r),
+      λ below. (
+        (λ z. (_, zero-right tag k s f random room h below (sym e ∙ z))),
+        (λ A r. record {
+          number = e ∙ right-zero tag k s f random room h below A r;
+          said = right-said tag k s f random room h below A r;
+          state = right-state tag k s f random room h below A r;
+        }),
+      ),
+      λ reached. e ∙ limit-number tag k s f random room h reached,
     )

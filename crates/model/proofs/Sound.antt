@@ -3,7 +3,7 @@
 --   zeros-block       sixteen zero bytes are a block
 --   limit-low         AUTH_LIM is at most 1,023
 --   command-sound     a command that is carried out comes to a sound decision
---   refusal-sound     so does a frame that is refused
+--   decision-sound    so does every frame that fits
 --   fits-valid        a frame that fits is no misfit in a valid box
 --   valid-step        the step
 --   valid-end         a list of calls that fit ends in a valid box

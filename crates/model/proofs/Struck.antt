@@ -53,7 +53,7 @@ unfolding bitOf oneWay crcBit crcBits crcByte crcFrom crcA onAir withCrc
     pageKey keyOf rotated limitReached raised lowered challengeNumber challenged proofFirst proofSecond sameBytes proofNumber proved
     misfit commandNumber halted commandDone frameNumber notDone decide saidOf countersAfter failedAfter storeAfter tagAfter frame′.frame
     imageRight tagOf storeOf loadNumber load step base boundary refuses log fates judge wakesAhead having
-computed = ((refl, (refl, (refl, (refl, tt)))), refl)
+computed = (((refl, refl), ((refl, refl), ((refl, refl), ((refl, refl), tt)))), refl)
 
 pub struck-right : StruckRight
 struck-right = computed .0
@@ -62,7 +62,7 @@ pub random-kept : RandomKept
 random-kept = computed .1
 
 -- every element is below 256
-abbrev byteTest : List ℕ → Bool
+abbrev pub byteTest : List ℕ → Bool
 byteTest [] = true
 byteTest (x ∷ xs) = both (ltb x 256) (byteTest xs)
 

@@ -23,9 +23,8 @@ use Rattle.model.specs.Map.{mf0aes20}
 use Rattle.model.specs.Settings.{randomIdOn}
 use Rattle.model.specs.Record.{zeros, isActive, isChallenged, counter}
 use Rattle.model.specs.Telling.{damaged, codeOf}
-use Rattle.model.specs.Reading.{idBytes}
-use Rattle.model.specs.Authentication.{keyOf, rotated, limitReached}
-use Rattle.model.specs.Frame.{bytes, misfit, frame}
+use Rattle.model.specs.Authentication.{keyOf, rotated, limitReached, loggedIn}
+use Rattle.model.specs.Frame.{bytes, misfit, Outcome, frame}
 use Rattle.model.specs.Calls.{Bytes}
 
 -- READ_CNT answered 0
@@ -49,7 +48,6 @@ pub record Asked (tag : Tag) (k : ℕ) (s f random : List ℕ) (room : ℕ) : Ty
   pub long : length f ≡ 35
   pub whole : damaged f ≡ false
   pub fits : misfit mf0aes20 tag s random room ≡ false
-  pub below : limitReached mf0aes20 tag s ≡ false
   pub store : Bytes s
   pub original : IsBlock (tag .originality)
   pub challenge : IsBlock (tag .challenge)
@@ -61,14 +59,21 @@ pub record RightProof (tag : Tag) (k : ℕ) (s f A : List ℕ) : Type 0 where
   pub first : blockOf (drop 1 f) 0 ≡ cbcEncipher (keyOf mf0aes20 tag s k) zeros A
   pub second : blockOf (drop 1 f) 16 ≡ cbcEncipher (keyOf mf0aes20 tag s k) (blockOf (drop 1 f) 0) (rotated (tag .challenge))
 
+-- what a right proof for A is answered with
+pub record Proved (tag : Tag) (k : ℕ) (s A : List ℕ) (o : Outcome) : Type 0 where
+  pub number : o .number ≡ 0
+  -- 00h and A rotated, enciphered
+  pub said : o .said ≡ bytes (withCrc (0x00 ∷ cbcEncipher (keyOf mf0aes20 tag s k) zeros (rotated A)))
+  pub state : o .tag .state ≡ loggedIn k
+
 abbrev pub ProofExact : Type 0
 ProofExact =
     (tag : Tag) (k : ℕ) (s f random : List ℕ) (room : ℕ) → Asked tag k s f random room → let o = frame tag s f random room in
-    -- answered 0, the frame is a right proof for some A
-    (o .number ≡ 0 → (A : List ℕ) × RightProof tag k s f A)
-    -- and a right proof for A is answered 0, with 00h and A rotated, enciphered
-    × ((A : List ℕ) → RightProof tag k s f A
-    → (o .number ≡ 0) × (o .said ≡ bytes (withCrc (0x00 ∷ cbcEncipher (keyOf mf0aes20 tag s k) zeros (rotated A)))))
+    -- the limit not reached: answered 0, the frame is a right proof for some A, and a right proof for A is answered so
+    (limitReached mf0aes20 tag s ≡ false
+    → (o .number ≡ 0 → (A : List ℕ) × RightProof tag k s f A) × ((A : List ℕ) → RightProof tag k s f A → Proved tag k s A o))
+    -- the limit reached: 11, for a right proof too
+    × (limitReached mf0aes20 tag s ≡ true → o .number ≡ 11)
 
 -- a READ or FAST_READ frame
 abbrev pub Reads : List ℕ → Type 0
@@ -87,7 +92,7 @@ ReadAlike tag s t =
 
 abbrev pub RandomIdHides : Type 0
 RandomIdHides =
-    (tag : Tag) (s t : List ℕ) → isActive (tag .state) ≡ true → randomIdOn mf0aes20 s ≡ true → AgreeWhere (λ i. idBytes ≤ i) s t
+    (tag : Tag) (s t : List ℕ) → isActive (tag .state) ≡ true → randomIdOn mf0aes20 s ≡ true → AgreeWhere (λ i. 9 ≤ i) s t
     → ReadAlike tag s t
 
 abbrev pub KeysHidden : Type 0

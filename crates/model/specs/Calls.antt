@@ -41,6 +41,7 @@ step b (frame f random room) =
     let o = frame′.frame (b .tag) (b .store) f random room in
     record { number = o .number; said = o .said; next = record { tag = o .tag; store = o .store } }
 
+-- document 01's stored memory
 pub record Stored : Type 0 where
   pub pages : List ℕ
   pub counters : List ℕ
@@ -61,6 +62,7 @@ boundary power = true
 boundary select = true
 boundary (frame f random room) = false
 
+-- document 01's refused is any number but 0; demand 3 strikes out none for a failed authentication, number 8
 unfoldable pub refuses : ℕ → Bool
 refuses n = not (eqb n 0) && not (eqb n 8)
 

@@ -14,14 +14,17 @@ use mathlib.Core.Bool.{not, _&&_, cond}
 use mathlib.Core.Logic.{_⊎_}
 use Prim.Native.Nat.{ℕ, _+_, _≤_}
 use lib.Dec.{eqb}
+use Rattle.forget.specs.Machine.{Given}
 use Rattle.model.specs.declared.Tag.{Tag}
+use Rattle.model.specs.declared.State.{State}
 use Rattle.model.specs.declared.State.the-variants.{Waiting, Active}
 use Rattle.model.specs.Map.{mf0aes20}
 use Rattle.model.specs.Settings.{authLimit}
-use Rattle.model.specs.Record.{zeros, power, select, zeroTag}
+use Rattle.model.specs.Record.{zeros, zeroTag}
 use Rattle.model.specs.Numbers.{nibbleOf}
 use Rattle.model.specs.Frame.{Said, silence, nibble, Outcome, frame, laidOver}
 use Rattle.model.specs.Image.{Loaded, load, Saved, save}
+use Rattle.model.specs.Calls.{Box, power, select, storedOf, step}
 
 abbrev pub NumberInTable : Type 0
 NumberInTable = (tag : Tag) (s f random : List ℕ) (room : ℕ) → frame tag s f random room .number ≤ 11
@@ -54,17 +57,19 @@ KeepsAll =
     (tag : Tag) (s f random : List ℕ) (room : ℕ) → let o = frame tag s f random room in
     (o .number ≡ 1) ⊎ (o .number ≡ 10) → Unchanged tag s o
 
--- the stored part of a record is another's
-pub record SameStored (tag other : Tag) : Type 0 where
-  pub counters : tag .counters ≡ other .counters
-  pub failed : tag .failed ≡ other .failed
-  pub originality : tag .originality ≡ other .originality
+-- answered 0 with silence, whatever the record; all that is stored is kept, and the fleeting part is the state and no challenge
+pub record Event (b : Box) (st : State) (g : Given Box Said) : Type 0 where
+  pub number : g .number ≡ 0
+  pub silent : g .said ≡ silence
+  pub kept : storedOf (g .next) ≡ storedOf b
+  pub state : g .next .tag .state ≡ st
+  pub challenge : g .next .tag .challenge ≡ zeros
 
 abbrev pub PowerKeepsStored : Type 0
-PowerKeepsStored = (tag : Tag) → SameStored (power tag) tag × (power tag .state ≡ Waiting) × (power tag .challenge ≡ zeros)
+PowerKeepsStored = (b : Box) → Event b Waiting (step b power)
 
 abbrev pub SelectKeepsStored : Type 0
-SelectKeepsStored = (tag : Tag) → SameStored (select tag) tag × (select tag .state ≡ Active) × (select tag .challenge ≡ zeros)
+SelectKeepsStored = (b : Box) → Event b Active (step b select)
 
 abbrev pub LoadRefused : Type 0
 LoadRefused =

@@ -1,15 +1,15 @@
--- The claims about what went wrong in the field, each over all lists of calls from any image that loads.
+-- Claims over all lists of calls from any image that loads: counters, one-way bits, logins, the failed count.
 --
 --     CountersAddUp      a counter is its loaded value plus the increments answered 0
 --     SetBitsStay        a set OTP or lock bit stays set
 --     LoginsAreProved    AUTHENTICATED and TRACEABLE are held only after a part 2 answered 0 with that key, and nothing that ends a session since
 --     CountInBounds      the failed count is at most 1,023
 --
--- proofs/FieldClaims.antt proves each. Assumes nothing.
+-- proofs/CountersAddUp.antt, SetBitsStay.antt and Logins.antt have the laws of single calls and of lists, proofs/Claims.antt the claims. Assumes nothing.
 use mathlib.Core.Path.{_≡_}
 use mathlib.Core.List.{List, [], _∷_}
 use mathlib.Core.Bool.{Bool, true, false, _&&_, _||_, cond}
-use Prim.Native.Nat.{ℕ, zero, suc, _+_, _≤_}
+use Prim.Native.Nat.{ℕ, zero, suc, _+_, _*_, _≤_}
 use lib.Dec.{ltb, leb, eqb}
 use lib.ListN.{getD}
 use Rattle.bits.specs.Bits.{bitOf}
@@ -17,10 +17,8 @@ use Rattle.forget.specs.Machine.{Entry, Every, log, end}
 use Rattle.model.specs.declared.State.{State}
 use Rattle.model.specs.declared.State.the-variants.{Waiting, Active, Traceable, Authenticated, Challenged, Unknown}
 use Rattle.model.specs.declared.Command.the-variants.{IncrCnt, Authenticate, Proof, Halt}
-use Rattle.model.specs.Record.{counter, highestFailed}
+use Rattle.model.specs.Record.{counter}
 use Rattle.model.specs.Telling.{codeOf}
-use Rattle.model.specs.Counters.{increment}
-use Rattle.model.specs.Frame.{data4}
 use Rattle.model.specs.Image.{load}
 use Rattle.model.specs.Calls.{Box, Call, power, select, frame, tagMachine, Bytes, Fit, loadedBox}
 
@@ -30,12 +28,12 @@ FromEveryImage P = (i s : List ℕ) → Bytes i → load i s .number ≡ 0 → (
 
 -- ---- counters
 
--- what a call answered with the number k adds to counter n: an INCR_CNT of that counter answered 0 adds its increment
+-- what a call answered with the number k adds to counter n: an INCR_CNT of that counter answered 0 adds its first three value bytes, low first
 unfoldable pub added : ℕ → Call → ℕ → ℕ
 added n power k = 0
 added n select k = 0
 added n (frame f random room) k =
-    cond (eqb k 0 && eqb (getD f 0 0) (codeOf IncrCnt) && eqb (getD f 1 0) n) (increment (data4 f)) 0
+    cond (eqb k 0 && eqb (getD f 0 0) (codeOf IncrCnt) && eqb (getD f 1 0) n) (getD f 2 0 + 256 * getD f 3 0 + 65536 * getD f 4 0) 0
 
 unfoldable pub addedIn : ℕ → List (Entry tagMachine) → ℕ
 addedIn n [] = 0
@@ -59,29 +57,29 @@ SetBitsStay =
 
 -- ---- logins
 
--- who has proved what, by the calls and their numbers alone: nobody; somebody was challenged with key k; somebody proved key k
+-- what has been proved, by the calls and their numbers alone: nothing; a challenge with key k is out; key k was proved
 pub data Session : Type 0 where
-  nobody : Session
+  unproven : Session
   asked proven : ℕ → Session
 
 -- part 2 answered 0 proves the key that was asked for
 abbrev pub answers : Session → Session
-answers nobody = nobody
+answers unproven = unproven
 answers (asked k) = proven k
-answers (proven k) = nobody
+answers (proven k) = unproven
 
 -- a frame answered 0: part 1 begins anew, part 2 proves, HLTA ends, every other command leaves the session
 abbrev pub carriedOn : Session → List ℕ → Session
 carriedOn x f =
     cond (eqb (getD f 0 0) (codeOf Authenticate)) (asked (getD f 1 0))
-    (cond (eqb (getD f 0 0) (codeOf Proof)) (answers x) (cond (eqb (getD f 0 0) (codeOf Halt)) nobody x))
+    (cond (eqb (getD f 0 0) (codeOf Proof)) (answers x) (cond (eqb (getD f 0 0) (codeOf Halt)) unproven x))
 
 -- a power-on, a selection and every other number end it
 unfoldable pub followed : Session → Call → ℕ → Session
-followed x power k = nobody
-followed x select k = nobody
+followed x power k = unproven
+followed x select k = unproven
 followed x (frame f random room) zero = carriedOn x f
-followed x (frame f random room) (suc k) = nobody
+followed x (frame f random room) (suc k) = unproven
 
 unfoldable pub sessionAfter : Session → List (Entry tagMachine) → Session
 sessionAfter x [] = x
@@ -98,9 +96,9 @@ Holds (Unknown n) x = Unit {0}
 
 abbrev pub LoginsAreProved : Type 0
 LoginsAreProved =
-    FromEveryImage (λ b calls. Holds (end tagMachine b calls .tag .state) (sessionAfter nobody (log tagMachine b calls)))
+    FromEveryImage (λ b calls. Holds (end tagMachine b calls .tag .state) (sessionAfter unproven (log tagMachine b calls)))
 
 -- ---- the failed count
 
 abbrev pub CountInBounds : Type 0
-CountInBounds = FromEveryImage (λ b calls. end tagMachine b calls .tag .failed ≤ highestFailed)
+CountInBounds = FromEveryImage (λ b calls. end tagMachine b calls .tag .failed ≤ 1023)

@@ -116,20 +116,24 @@ frameNumber m tag s f random room =
 unfoldable pub decide : Map → Tag → List ℕ → List ℕ → List ℕ → ℕ → Decision
 decide m tag s f random room = concluded (frameNumber m tag s f random room) m tag s (toldDone (told (getD f 0 0)) m tag s f random)
 
--- a reply with all that it carries
+-- a reply with all that it carries; silence is document 01's term for none
 pub data Said : Type 0 where
   silence : Said
   nibble : ℕ → Said
   bytes : List ℕ → Said
 
--- data goes out with its CRC_A, low byte first; what is read is the memory before the frame
+-- data goes out with its CRC_A behind it, low byte first
+abbrev pub sealed : List ℕ → Said
+sealed d = bytes (withCrc d)
+
+-- what is read is the memory before the frame
 unfoldable pub saidOf : Map → Tag → List ℕ → List ℕ → Say → Said
 saidOf m tag s block say.the-variants.Silence = silence
 saidOf m tag s block (say.the-variants.Nibble n) = nibble n
-saidOf m tag s block (say.the-variants.Window p) = bytes (withCrc (shownPages m (tag .state) s (readWindow p)))
-saidOf m tag s block (say.the-variants.Range p q) = bytes (withCrc (shownPages m (tag .state) s (fastRange p q)))
-saidOf m tag s block (say.the-variants.Count n) = bytes (withCrc (lowFirst 3 (counter tag n)))
-saidOf m tag s block (say.the-variants.Block b) = bytes (withCrc (b ∷ block))
+saidOf m tag s block (say.the-variants.Window p) = sealed (shownPages m (tag .state) s (readWindow p))
+saidOf m tag s block (say.the-variants.Range p q) = sealed (shownPages m (tag .state) s (fastRange p q))
+saidOf m tag s block (say.the-variants.Count n) = sealed (lowFirst 3 (counter tag n))
+saidOf m tag s block (say.the-variants.Block b) = sealed (b ∷ block)
 
 -- the one definition that stores: at most one page, counter or count
 unfoldable pub countersAfter : List ℕ → Effect → List ℕ

@@ -52,7 +52,7 @@ imageRight m i =
     && eqb (getD i (keyAt m) 0) 1
     && leb (numberAt i (failedAt m + 1) 2) highestFailed
 
--- loading an image leaves the tag in WAITING
+-- a loaded tag begins in WAITING, with no challenge
 unfoldable pub tagOf : Map → List ℕ → Tag
 tagOf m i = record {
   counters = numberAt i (countersAt m + 1) 3 ∷ numberAt i (countersAt m + 4) 3 ∷ numberAt i (countersAt m + 7) 3 ∷ [];
@@ -92,7 +92,7 @@ pub record Saved : Type 0 where
   pub number : ℕ
   pub image : List ℕ
 
--- answered 0 it fills the first 271 bytes of the image buffer and no others
+-- at 0 the image lies at the start of the buffer, and the bytes behind it are as they were
 unfoldable pub save : Tag → List ℕ → List ℕ → Saved
 save tag s buffer = record {
   number = saveNumber tag s (length buffer);

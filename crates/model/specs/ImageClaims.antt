@@ -3,6 +3,7 @@
 --     WellFormed tag s     a tag's record and its store, as loading hands them out
 --     Sizes                the places and the length of an image in numbers
 --     LoadedWellFormed     an image of bytes, loaded, gives a well-formed tag
+--     LoadedWaiting        loading leaves WAITING and no challenge
 --     ImageOfLoaded        the image of what a right image of bytes holds is that image, for every map
 --     ImageHolds           the image of a tag's record and store is right and holds them, for every map
 --     LoadThenSave         a loaded tag is saved as the image it was loaded from
@@ -19,7 +20,7 @@ use Rattle.fips197.specs.State.{IsBlock}
 use Rattle.model.specs.declared.Map.{Map}
 use Rattle.model.specs.declared.Tag.{Tag}
 use Rattle.model.specs.declared.State.the-variants.{Waiting}
-use Rattle.model.specs.Map.{mf0aes20, storeSize}
+use Rattle.model.specs.Map.{mf0aes20, storeSize, replySize, lastPage, longestFrame}
 use Rattle.model.specs.Record.{zeros, possible, fleeting}
 use Rattle.model.specs.Image.{countersAt, failedAt, keyAt, imageSize, imageOf, imageRight, tagOf, storeOf, load, save}
 use Rattle.model.specs.Calls.{Bytes}
@@ -33,12 +34,17 @@ pub record WellFormed (tag : Tag) (s : List ℕ) : Type 0 where
   pub key : IsBlock (tag .originality)
 
 abbrev pub Sizes : Type 0
-Sizes = (countersAt mf0aes20 ≡ 241) × (failedAt mf0aes20 ≡ 251) × (keyAt mf0aes20 ≡ 254) × (imageSize mf0aes20 ≡ 271)
+Sizes =
+    (storeSize mf0aes20 ≡ 240) × (replySize mf0aes20 ≡ 242) × (lastPage mf0aes20 ≡ 0x3b) × (longestFrame ≡ 64) × (countersAt mf0aes20 ≡ 241) × (failedAt mf0aes20 ≡ 251) × (keyAt mf0aes20 ≡ 254) × (imageSize mf0aes20 ≡ 271)
 
 abbrev pub LoadedWellFormed : Type 0
 LoadedWellFormed =
     (i s : List ℕ) → Bytes i → let l = load i s in
     l .number ≡ 0 → WellFormed (l .tag) (l .store)
+
+-- loading leaves WAITING and no challenge
+abbrev pub LoadedWaiting : Type 0
+LoadedWaiting = (i s : List ℕ) → load i s .number ≡ 0 → (load i s .tag .state ≡ Waiting) × (load i s .tag .challenge ≡ zeros)
 
 abbrev pub ImageOfLoaded : Type 0
 ImageOfLoaded = (m : Map) (i : List ℕ) → Bytes i → imageRight m i ≡ true → imageOf m (tagOf m i) (storeOf m i) ≡ i

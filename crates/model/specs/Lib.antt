@@ -19,3 +19,4 @@ pub mod ImageClaims
 pub mod CaseImages
 pub mod Cases
 pub mod Struck
+pub mod Samples

@@ -48,7 +48,7 @@ kept n tag = record {
   challenge = tag .challenge;
 }
 
--- document 01's "session ended" is WAITING
+-- every number but 0, 1 and 10: document 01's "session ended", which is WAITING
 unfoldable pub refused : ℕ → Effect → Decision
 refused n e = record {
   number = n;

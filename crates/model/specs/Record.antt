@@ -81,7 +81,7 @@ fleeting st ch tag = record {
   challenge = ch;
 }
 
--- Power puts the tag in WAITING, Select in ACTIVE, from any record; both drop any authentication and challenge, and touch nothing stored
+-- the two events: any record is taken, its stored part is handed on, and nothing of a login or a challenge is left
 unfoldable pub power : Tag → Tag
 power tag = fleeting Waiting zeros tag
 

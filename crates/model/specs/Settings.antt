@@ -1,4 +1,5 @@
--- The settings in the configuration pages, 009 Tables 7 to 15. No other definition knows their places.
+-- The settings in the configuration pages, 009 Tables 7 to 15: no check knows their places but through these. (The bits that a write keeps, and the
+-- Random ID bit of what is written, are in Writing.antt.)
 --
 --     randomIdOn m s      RID_ACT: Random ID is on                                    Table 8
 --     auth0 m s           AUTH0: the first page that needs authentication             Table 9

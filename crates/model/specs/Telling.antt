@@ -1,7 +1,7 @@
--- Document 01: "The command is told by its first byte, and each code has one length." The codes and lengths are 009 Table 20's.
+-- Reception of a frame and the telling of its command: length and CRC_A, then the code byte, then the length. Codes and lengths are 009 Table 20's.
 --
 --     told b             the command of a code byte, with the length of its payload, the frame without CRC_A
---     allowed st c       document 01: while CHALLENGED only AFh is allowed, otherwise AFh is not
+--     allowed st c       AFh is for CHALLENGED alone, and CHALLENGED for AFh alone
 --     damaged f          under 3 or over 64 bytes, or the CRC_A is wrong                              number 2
 --     toldNumber t st n  3 for a code that is unknown or not allowed now, 4 for a wrong length n
 --

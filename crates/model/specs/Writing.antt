@@ -74,6 +74,7 @@ barredNumber PairLock = 7
 barredNumber KeyLock = 7
 barredNumber ConfigLock = 7
 
+-- the place is for request E6: no call hands it back yet
 abbrev pub barredPlace : Barred → ℕ
 barredPlace Open = 0
 barredPlace Auth0 = 1
