@@ -1,4 +1,6 @@
--- The bench cases: the statement of specs/Cases.antt, by computing every row.
+-- The bench cases: the statements of specs/Cases.antt and specs/CasesDirect.antt, by computing every row.
+--
+--   cases-right, direct-right     the two statements
 --
 -- Assumes nothing.
 use Rattle.bits.specs.Bits.{bitOf, oneWay}
@@ -20,14 +22,22 @@ use Rattle.model.specs.Writing.{freezeRows, pairFreezeRows, frozen, merg
 use Rattle.model.specs.Counters.{counterBarred, readCntNumber, incrCntNumber}
 use Rattle.model.specs.Authentication.{pageKey, keyOf, rotated, limitReached, raised, lowered, challengeNumber, challenged}
 use Rattle.model.specs.Authentication.{proofFirst, proofSecond, sameBytes, proofNumber, proved}
-use Rattle.model.specs.Frame.{misfit, commandNumber, commandDone, frameNumber, notDone, decide, saidOf}
+use Rattle.model.specs.Frame.{misfit, commandNumber, halted, commandDone, frameNumber, notDone, decide, saidOf}
 use Rattle.model.specs.Frame.{countersAfter, failedAfter, storeAfter, tagAfter, frame}
-use Rattle.model.specs.Image.{imageRight, tagOf, storeOf, loadNumber, load}
+use Rattle.model.specs.Image.{imageOf, imageRight, tagOf, storeOf, loadNumber, load, saveNumber, save}
 use Rattle.model.specs.Calls.{step}
 use Rattle.model.specs.CaseImages.{patched, base}
-use Rattle.model.specs.Cases.{sameSaid, sameState, storedRight, leftRight, lineRight, playedRight, caseRight, allRight, cases, CasesRight}
+use Rattle.model.specs.CaseForm.{sameSaid, sameState, storedRight, leftRight, lineRight, playedRight, caseRight, allRight}
+use Rattle.model.specs.CasesFrames.{frameCases}
+use Rattle.model.specs.CasesReading.{readingCases}
+use Rattle.model.specs.CasesLocks.{lockCases}
+use Rattle.model.specs.CasesSettings.{settingCases}
+use Rattle.model.specs.CasesCounters.{counterCases}
+use Rattle.model.specs.CasesLogins.{loginCases}
+use Rattle.model.specs.Cases.{documentCases, cases, CasesRight}
+use Rattle.model.specs.CasesDirect.{sameTag, directRight, allDirectRight, stateRows, direct, DirectRight}
 
-pub cases-right : CasesRight
+computed : CasesRight × DirectRight
 unfolding bitOf oneWay crcBit crcBits crcByte crcFrom crcA onAir withCrc
     xtime productOf product sBoxTable sBox invSBoxTable invSBox
     subBytes invSubBytes shiftRows invShiftRows mixColumns invMixColumns addRoundKey powerOfX nextWord expand keyExpansion
@@ -38,7 +48,15 @@ unfolding bitOf oneWay crcBit crcBits crcByte crcFrom crcA onAir withCrc
     auth0Bars randomIdBars ownLockBars pairLockBars keyLockBars configLockBars barred writeNumber freezeRows pairFreezeRows frozen merged keepOf openedOf written
     counterBarred readCntNumber incrCntNumber
     pageKey keyOf rotated limitReached raised lowered challengeNumber challenged proofFirst proofSecond sameBytes proofNumber proved
-    misfit commandNumber commandDone frameNumber notDone decide saidOf countersAfter failedAfter storeAfter tagAfter frame
-    imageRight tagOf storeOf loadNumber load step patched base
-    sameSaid sameState storedRight leftRight lineRight playedRight caseRight allRight cases
-cases-right = tt
+    misfit commandNumber halted commandDone frameNumber notDone decide saidOf countersAfter failedAfter storeAfter tagAfter frame
+    imageOf imageRight tagOf storeOf loadNumber load saveNumber save step patched base
+    sameSaid sameState storedRight leftRight lineRight playedRight caseRight allRight
+    documentCases frameCases readingCases lockCases settingCases counterCases loginCases cases
+    sameTag directRight allDirectRight stateRows direct
+computed = (tt, tt)
+
+pub cases-right : CasesRight
+cases-right = computed .0
+
+pub direct-right : DirectRight
+direct-right = computed .1

@@ -1,113 +1,26 @@
 -- Document 01, "Bench cases": the starred cases and others beside them, one list with one statement.
 --
---     Line               a call, the number it must be answered with, and the whole reply
---     Case               an image, calls with their answers, and what they leave
---     caseRight c        the case c, played from the loading of its image, is as it says
---     toActive           power-on and selection, from any state to ACTIVE
---     cases              the cases
+--     documentCases      the starred cases, and the bench program's example
+--     cases              these and the cases of the other Cases files, by theme
 --     CasesRight         each of them is right
+--     blank              CaseForm.antt's store that an image is loaded into
 --
 -- Every value of a row is written out: bytes of the image, frames and replies with their CRC_A. tools/cases.py works them out from document 01, 009
--- and FIPS 197, with a CRC_A and an AES of its own, and not from the definition of the tag. A row marked * is a starred case of document 01.
--- proofs/Cases.antt proves the statement by computing. Assumes nothing.
+-- and FIPS 197, with a CRC_A and an AES of its own, and not from the definition of the tag. A row marked * is a starred case of document 01. What a
+-- row says and when it is right is in CaseForm.antt. proofs/Cases.antt proves the statement by computing. Assumes nothing.
 use mathlib.Core.List.{List, [], _∷_, _++_}
-use mathlib.Core.Bool.{Bool, true, false, _&&_}
-use Prim.Native.Nat.{ℕ, _+_, _*_}
-use lib.Dec.{T, eqb}
-use lib.ListN.{getD, take, drop, replicate}
-use Rattle.forget.specs.Machine.{Given}
-use Rattle.model.specs.declared.State.{State}
-use Rattle.model.specs.declared.State.the-variants.{Waiting, Active, Traceable, Authenticated}
-use Rattle.model.specs.Record.{zeros, stateNumber, keyNumber}
-use Rattle.model.specs.Authentication.{sameBytes}
-use Rattle.model.specs.Frame.{Said, silence, nibble, bytes}
-use Rattle.model.specs.Image.{load}
-use Rattle.model.specs.Calls.{Box, Call, power, select, frame, step, loadedBox}
-use Rattle.model.specs.CaseImages.{hex, Patch, page, counter, failed, patched, base}
-
-pub record Line : Type 0 where
-  pub call : Call
-  pub number : ℕ
-  pub said : Said
-
-pub record Case : Type 0 where
-  pub image : List ℕ
-  pub lines : List Line
-  -- what the stored memory differs in from the image afterwards
-  pub changed : List Patch
-  pub state : State
-
--- the same kind, and the same nibble or the same bytes
-unfoldable pub sameSaid : Said → Said → Bool
-sameSaid silence silence = true
-sameSaid silence (nibble m) = false
-sameSaid silence (bytes ys) = false
-sameSaid (nibble n) silence = false
-sameSaid (nibble n) (nibble m) = eqb n m
-sameSaid (nibble n) (bytes ys) = false
-sameSaid (bytes xs) silence = false
-sameSaid (bytes xs) (nibble m) = false
-sameSaid (bytes xs) (bytes ys) = sameBytes xs ys
-
-unfoldable pub sameState : State → State → Bool
-sameState a b = eqb (stateNumber a) (stateNumber b) && eqb (keyNumber a) (keyNumber b)
-
--- a number of three bytes of an image, low byte first
-abbrev pub threeAt : List ℕ → ℕ → ℕ
-threeAt i at = getD i at 0 + 256 * getD i (at + 1) 0 + 65536 * getD i (at + 2) 0
-
--- all that is stored is what the image i holds
-unfoldable pub storedRight : List ℕ → Box → Bool
-storedRight i b =
-    sameBytes (b .store) (take 240 (drop 1 i)) && sameBytes (b .tag .counters) (threeAt i 242 ∷ threeAt i 245 ∷ threeAt i 248 ∷ [])
-    && eqb (b .tag .failed) (getD i 252 0 + 256 * getD i 253 0)
-    && sameBytes (b .tag .originality) (take 16 (drop 255 i))
-
--- what the calls leave; no case ends in CHALLENGED, so the challenge bytes are zero
-unfoldable pub leftRight : Case → Box → Bool
-leftRight c b =
-    storedRight (patched (c .image) (c .changed)) b && sameState (b .tag .state) (c .state) && sameBytes (b .tag .challenge) zeros
-
-unfoldable pub lineRight : Line → Given Box Said → Bool
-lineRight l g = eqb (g .number) (l .number) && sameSaid (g .said) (l .said)
-
--- the calls one after another, each answered as its line says
-unfoldable pub playedRight : Case → Box → List Line → Bool
-playedRight c b [] = leftRight c b
-playedRight c b (l ∷ ls) = let g = step b (l .call) in lineRight l g && playedRight c (g .next) ls
-
--- the store that an image is loaded into
-abbrev pub blank : List ℕ
-blank = replicate 240 0xff
-
-unfoldable pub caseRight : Case → Bool
-caseRight c = eqb (load (c .image) blank .number) 0 && playedRight c (loadedBox (c .image) blank) (c .lines)
-
-unfoldable pub allRight : List Case → Bool
-allRight [] = true
-allRight (c ∷ cs) = caseRight c && allRight cs
-
--- ---- calls
-
-abbrev pub powered : Line
-powered = record { call = power; number = 0; said = silence }
-
-abbrev pub selected : Line
-selected = record { call = select; number = 0; said = silence }
-
-abbrev pub toActive : List Line
-toActive = powered ∷ selected ∷ []
-
--- a frame with the random block of a challenge, and a reply buffer of the least length
-abbrev pub sentWith : List ℕ → List ℕ → ℕ → Said → Line
-sentWith random f n s = record { call = frame f random 242; number = n; said = s }
-
--- a frame for which the random block is of no use
-abbrev pub sent : List ℕ → ℕ → Said → Line
-sent f n s = sentWith (replicate 16 0xa5) f n s
-
-abbrev pub ack : Said
-ack = nibble 0xa
+use lib.Dec.{T}
+use Rattle.model.specs.declared.State.the-variants.{Waiting, Active}
+use Rattle.model.specs.Frame.{silence, nibble, bytes}
+use Rattle.model.specs.CaseImages.{hex, page, counter, patched, base}
+use Rattle.model.specs.CaseForm.{Case, allRight, powered, selected, toActive, sentWith, sent, ack}
+pub use Rattle.model.specs.CaseForm.{blank}
+use Rattle.model.specs.CasesFrames.{frameCases}
+use Rattle.model.specs.CasesReading.{readingCases}
+use Rattle.model.specs.CasesLocks.{lockCases}
+use Rattle.model.specs.CasesSettings.{settingCases}
+use Rattle.model.specs.CasesCounters.{counterCases}
+use Rattle.model.specs.CasesLogins.{loginCases}
 
 -- ---- from here on written by tools/cases.py
 
@@ -259,151 +172,14 @@ benchExample = record {
   state = Waiting;
 }
 
--- A counter goes out low byte first.
-abbrev pub readCounter : Case
-readCounter = record {
-  image = patched base (counter 1 (hex 3 0x010203) ∷ []);
-  lines = toActive ++ (sent (hex 4 0x3901_936e) 0 (bytes (hex 5 0x010203_e3fe)) ∷ []);
-  changed = [];
-  state = Active;
-}
-
--- Random ID on, ACTIVE: READ 00h shows nine zero bytes, then the internal byte, the lock bytes and OTP.
-abbrev pub randomId : Case
-randomId = record {
-  image = patched base (page 0x29 (hex 4 0x0100003c) ∷ page 0x02 (hex 4 0x10481020) ∷ page 0x03 (hex 4 0x0f1e2d3c) ∷ []);
-  lines = toActive ++ (sent (hex 4 0x3000_02a8) 0 (bytes (hex 18 0x00000000_00000000_00481020_0f1e2d3c_2f3d)) ∷ []);
-  changed = [];
-  state = Active;
-}
-
--- Key pages read as zeros, in READ and in FAST_READ; the pages beside them show.
-abbrev pub keyPages : Case
-keyPages = record {
-  image = base;
-  lines =
-      toActive ++ (
-      sent (hex 4 0x3030_8199) 0 (bytes (hex 18 0x00000000_00000000_00000000_00000000_3749)) ∷
-      sent (hex 5 0x3a2f38_f04d) 0
-      (bytes (hex 42 0x2fd04f82_00000000_00000000_00000000_00000000_00000000_00000000_00000000_00000000_38c78e06_3ae6)) ∷ []);
-  changed = [];
-  state = Active;
-}
-
--- 009 Table 17 in full: the login with the key of zeros.
-abbrev pub table17 : Case
-table17 = record {
-  image = patched base (page 0x30 (hex 16 0x00000000_00000000_00000000_00000000) ∷ []);
-  lines =
-      toActive ++ (
-      sentWith (hex 16 0x1ae4174ca173ebbc59165cebe2f20821) (hex 4 0x1a00_4176) 0
-      (bytes (hex 19 0xaf_d5a847b84862ff3874a7f07b8ddf351b_87e7)) ∷
-      sent (hex 35 0xaf_cdf22c5f7a92f0af0155612b9b236ac7_a424bc5238d41ad041b8165b7d99e524_334a) 0
-      (bytes (hex 19 0x00_2c743d6b1e128f8076bd197b76012ce8_6bb3)) ∷ []);
-  changed = [];
-  state = Authenticated;
-}
-
--- A proof whose last bit is wrong, AUTH_LIM 0102h: 8, and the count goes from 0101h to 0102h. The next frame is 1.
-abbrev pub falseProof : Case
-falseProof = record {
-  image =
-      patched base (
-      page 0x30 (hex 16 0x00000000_00000000_00000000_00000000) ∷
-      page 0x2a (hex 4 0x0c050201) ∷
-      failed (hex 2 0x0101) ∷ []);
-  lines =
-      toActive ++ (
-      sentWith (hex 16 0x1ae4174ca173ebbc59165cebe2f20821) (hex 4 0x1a00_4176) 0
-      (bytes (hex 19 0xaf_d5a847b84862ff3874a7f07b8ddf351b_87e7)) ∷
-      sent (hex 35 0xaf_cdf22c5f7a92f0af0155612b9b236ac7_37c3e1ee82f4fc1c007ef3dcbc3d1674_6098) 8 (nibble 0x0) ∷
-      sent (hex 4 0x3004_26ee) 1 silence ∷ []);
-  changed = failed (hex 2 0x0201) ∷ [];
-  state = Waiting;
-}
-
--- Table 17's proof with one bit changed and the CRC kept, AUTH_LIM 0102h: 2, and the count stays.
-abbrev pub garbledProof : Case
-garbledProof = record {
-  image =
-      patched base (
-      page 0x30 (hex 16 0x00000000_00000000_00000000_00000000) ∷
-      page 0x2a (hex 4 0x0c050201) ∷
-      failed (hex 2 0x0101) ∷ []);
-  lines =
-      toActive ++ (
-      sentWith (hex 16 0x1ae4174ca173ebbc59165cebe2f20821) (hex 4 0x1a00_4176) 0
-      (bytes (hex 19 0xaf_d5a847b84862ff3874a7f07b8ddf351b_87e7)) ∷
-      sent (hex 35 0xaf_cdf22c5f7a92f0af0155612b9b236ac7_a424bc4238d41ad041b8165b7d99e524_334a) 2 (nibble 0x1) ∷ []);
-  changed = [];
-  state = Waiting;
-}
-
--- The count at AUTH_LIM: 11 at part 1.
-abbrev pub countAtLimit : Case
-countAtLimit = record {
-  image = patched base (page 0x2a (hex 4 0x0c050201) ∷ failed (hex 2 0x0201) ∷ []);
-  lines = toActive ++ (sentWith (hex 16 0x1ae4174ca173ebbc59165cebe2f20821) (hex 4 0x1a00_4176) 11 (nibble 0x4) ∷ []);
-  changed = [];
-  state = Waiting;
-}
-
--- 8.6.3's WRITEs of the key 000102..0F as DataProtKey, and a login with it; the count 20 is lowered by 16.
-abbrev pub dataProtKey : Case
-dataProtKey = record {
-  image = patched base (page 0x2a (hex 4 0x0c052800) ∷ failed (hex 2 0x1400) ∷ []);
-  lines =
-      toActive ++ (
-      sent (hex 8 0xa230_0f0e0d0c_00b3) 0 ack ∷
-      sent (hex 8 0xa231_0b0a0908_8d88) 0 ack ∷
-      sent (hex 8 0xa232_07060504_1ac4) 0 ack ∷
-      sent (hex 8 0xa233_03020100_97ff) 0 ack ∷
-      sentWith (hex 16 0x00112233445566778899aabbccddeeff) (hex 4 0x1a00_4176) 0
-      (bytes (hex 19 0xaf_69c4e0d86a7b0430d8cdb78070b4c55a_bd17)) ∷
-      sent (hex 35 0xaf_d9a6bbd6a82ee3538996b6a5380f7471_a9e3884be8e963b25da88f2e4341416e_58ec) 0
-      (bytes (hex 19 0x00_09b1e7e8455112e5d3ebcab3ff8c90dc_df12)) ∷ []);
-  changed = page 0x30 (hex 16 0x0f0e0d0c_0b0a0908_07060504_03020100) ∷ failed (hex 2 0x0400) ∷ [];
-  state = Authenticated;
-}
-
--- The same as UIDRetrKey, with Random ID on: TRACEABLE shows the serial number. The count 5 is set to 0.
-abbrev pub uidRetrKey : Case
-uidRetrKey = record {
-  image = patched base (page 0x2a (hex 4 0x0c052800) ∷ page 0x29 (hex 4 0x0100003c) ∷ failed (hex 2 0x0500) ∷ []);
-  lines =
-      toActive ++ (
-      sent (hex 8 0xa234_0f0e0d0c_109e) 0 ack ∷
-      sent (hex 8 0xa235_0b0a0908_9da5) 0 ack ∷
-      sent (hex 8 0xa236_07060504_0ae9) 0 ack ∷
-      sent (hex 8 0xa237_03020100_87d2) 0 ack ∷
-      sentWith (hex 16 0x00112233445566778899aabbccddeeff) (hex 4 0x1a01_c867) 0
-      (bytes (hex 19 0xaf_69c4e0d86a7b0430d8cdb78070b4c55a_bd17)) ∷
-      sent (hex 35 0xaf_d9a6bbd6a82ee3538996b6a5380f7471_a9e3884be8e963b25da88f2e4341416e_58ec) 0
-      (bytes (hex 19 0x00_09b1e7e8455112e5d3ebcab3ff8c90dc_df12)) ∷
-      sent (hex 5 0x3a0002_d273) 0 (bytes (hex 14 0x04512cf1_5a93c71e_10480000_ee9a)) ∷ []);
-  changed = page 0x34 (hex 16 0x0f0e0d0c_0b0a0908_07060504_03020100) ∷ failed (hex 2 0x0000) ∷ [];
-  state = Traceable;
-}
-
--- A login with the originality key leaves ACTIVE; with AUTH_LIM 0 the count stays.
-abbrev pub originalityKey : Case
-originalityKey = record {
-  image = patched base (failed (hex 2 0x0700) ∷ []);
-  lines =
-      toActive ++ (
-      sentWith (hex 16 0x00112233445566778899aabbccddeeff) (hex 4 0x1a02_5355) 0
-      (bytes (hex 19 0xaf_8df4e9aac5c7573a27d8d055d6e4d64b_ace3)) ∷
-      sent (hex 35 0xaf_4886271e5d6120a3f1f360036fbb4bda_fa8cb0fd86498ca3165d7b7a20053ce0_7cb8) 0
-      (bytes (hex 19 0x00_629216a7fb29996c579b4c9da4856562_313f)) ∷ []);
-  changed = [];
-  state = Active;
-}
+unfoldable pub documentCases : List Case
+documentCases =
+    emptyFrame ∷ oneByteWaiting ∷ read38 ∷ read39 ∷ fastReadOrder ∷ fastReadLast ∷ write01 ∷ otpSet ∷ frozenBit ∷ lockAndBlock ∷
+    lockedPage ∷ counterToHighest ∷ counterPastHighest ∷ protectedPage ∷ belowAuth0 ∷ benchExample ∷ []
 
 unfoldable pub cases : List Case
 cases =
-    emptyFrame ∷ oneByteWaiting ∷ read38 ∷ read39 ∷ fastReadOrder ∷ fastReadLast ∷ write01 ∷ otpSet ∷ frozenBit ∷ lockAndBlock ∷
-    lockedPage ∷ counterToHighest ∷ counterPastHighest ∷ protectedPage ∷ belowAuth0 ∷ benchExample ∷ readCounter ∷ randomId ∷ keyPages ∷
-    table17 ∷ falseProof ∷ garbledProof ∷ countAtLimit ∷ dataProtKey ∷ uidRetrKey ∷ originalityKey ∷ []
+    documentCases ++ frameCases ++ readingCases ++ lockCases ++ settingCases ++ counterCases ++ loginCases
 
 abbrev pub CasesRight : Type 0
 CasesRight = T (allRight cases)

@@ -1,0 +1,4 @@
+// What a frame leaves behind: the only code that stores and the only code that writes the reply.
+pub mod deciding;
+pub mod speaking;
+pub mod storing;

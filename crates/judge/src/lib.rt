@@ -1,0 +1,11 @@
+// What a frame's checks decide: code that only reads, each function one equation with a definition of the tag.
+pub mod authentication;
+pub mod counters;
+pub mod frame;
+pub mod numbers;
+pub mod reading;
+pub mod record;
+pub mod settings;
+pub mod sizes;
+pub mod telling;
+pub mod writing;

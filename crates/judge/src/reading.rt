@@ -1,0 +1,40 @@
+// Document 01, "Reading": READ and FAST_READ, 009 10.2 and 10.3.
+ghost use mathlib.Core.Path.{_≡_};
+ghost use Rattle.model.specs.Reading.{readBarred, readNumber, fastReadNumber};
+use crate::numbers::first;
+use crate::numbers::number_if;
+use crate::record;
+use crate::settings;
+use crate::sizes::last_page;
+use model::Map;
+use model::State;
+
+// A page up to the last one asked for is protected.
+pub fn read_barred(map: Map, st: State, s: &[u8], last: u16) -> bool
+    ensures { λ r. ⌜ r ≡ readBarred map st (now (s .entry)) last ⌝ }
+{
+    settings::read_protected(map, s)
+        & !record::is_authenticated(st)
+        & ((settings::auth0(map, s) as u16) <= last)
+}
+
+// READ of the four pages from p on.
+pub fn read_number(map: Map, st: State, s: &[u8], p: u8) -> u8
+    ensures { λ r. ⌜ r ≡ readNumber map st (now (s .entry)) p ⌝ }
+{
+    let last = (p as u16) + 3;
+    first(
+        number_if((last_page(map) as u16) < last, 5),
+        number_if(read_barred(map, st, s, last), 6),
+    )
+}
+
+// FAST_READ of the pages from p to q.
+pub fn fast_read_number(map: Map, st: State, s: &[u8], p: u8, q: u8) -> u8
+    ensures { λ r. ⌜ r ≡ fastReadNumber map st (now (s .entry)) p q ⌝ }
+{
+    first(
+        number_if((q < p) | (last_page(map) < q), 5),
+        number_if(read_barred(map, st, s, q as u16), 6),
+    )
+}
