@@ -1,0 +1,5 @@
+pub mod Bytes
+pub mod Fits
+pub mod Frames
+pub mod PartTwo
+pub mod Ruling
