@@ -1,7 +1,7 @@
 #!/usr/bin/env python3
 """The values of the bench cases, worked out from document 01, 009 and FIPS 197.
 
-    tools/cases.py            writes the base image and the rows into crates/model/specs/
+    tools/cases.py            writes the base image and the rows into crates/model/specs/ and crates/cases/specs/
     tools/cases.py --check    says whether they are there as they would be written; exit 1 if not
 
 The script has an AES-128 and a CRC_A of its own and uses nothing of the definition of the tag, which is held against these values. In each of the
@@ -462,6 +462,10 @@ LOCKS = [
      each(*[sent(write(p, "11223344"), 0) for p in range(0x08, 0x10)]), [page(0x08, hexed("11223344" * 8))], "Active"),
     ("lockByte1Only", "Lock bytes 00h,FFh: WRITE 03h to 07h are 0.", [locks(0x00, 0xFF)],
      each(*[sent(write(p, "11223344"), 0) for p in range(0x03, 0x08)]), [page(0x03, hexed("11223344" * 5))], "Active"),
+]
+
+# lock bytes 2 to 4
+PAIR_LOCKS = [
     ("pairLocksSet", "Lock bytes 2 to 4 at 00h, write 81h,0Ah,00h: 81h,0Ah,00h.", [], each(sent(write(0x28, "810a0000"), 0)),
      [pair_locks("810a0000")], "Active"),
     ("pairLocksAll", "Write FFh,FFh,FFh,FFh: FFh,0Fh,3Fh,00h. Reserved bits stay 0, and the block bits just written freeze nothing.", [],
@@ -619,9 +623,19 @@ COUNTERS = [
 
 # AUTHENTICATE
 PART_1 = sent([0x1A, 0x00], 0, data(b"\xaf" + STEP_2), RND_B)
-LOGINS = [
+# Table 17, and logins with the keys that 8.6.3 writes: with document 01's own, since a wrong order of a key's bytes shows in these alone
+KEY_LOGINS = [
     ("table17", "009 Table 17 in full: the login with the key of zeros.", [TABLE_KEY_PAGES],
      [TO_ACTIVE, sent([0x1A, 0x00], 0, data(b"\xaf" + STEP_2), RND_B), sent(b"\xaf" + STEP_3, 0, data(b"\x00" + STEP_4))], [], "Authenticated"),
+    ("dataProtKey", "8.6.3's WRITEs of the key 000102..0F as DataProtKey, and a login with it; the count 20 is lowered by 16.",
+     [AUTH_LIM_0028, failed(20)],
+     [TO_ACTIVE] + key_writes(0x30) + [part_1(0, KEY_863, B_2), part_2(KEY_863, A_2, B_2)], key_pages(0x30) + [failed(4)], "Authenticated"),
+    ("uidRetrKey", "The same as UIDRetrKey, with Random ID on: TRACEABLE shows the serial number. The count 5 is set to 0.",
+     [AUTH_LIM_0028, RANDOM_ID, failed(5)],
+     [TO_ACTIVE] + key_writes(0x34) + [part_1(1, KEY_863, B_2), part_2(KEY_863, A_2, B_2), sent([0x3A, 0x00, 0x02], 0, data(stored(0x00, 0x02)))],
+     key_pages(0x34) + [failed(0)], "Traceable"),
+]
+LOGINS = [
     ("falseProof", "A proof whose last bit is wrong, AUTH_LIM 0102h: 8, and the count goes from 0101h to 0102h. The next frame is 1.",
      [TABLE_KEY_PAGES, AUTH_LIM_0102, failed(0x0101)],
      [TO_ACTIVE, sent([0x1A, 0x00], 0, data(b"\xaf" + STEP_2), RND_B), sent(b"\xaf" + FALSE_PROOF, 8), sent([0x30, 0x04], 1)],
@@ -631,13 +645,6 @@ LOGINS = [
      [TO_ACTIVE, sent([0x1A, 0x00], 0, data(b"\xaf" + STEP_2), RND_B), framed(GARBLED, 2)], [], "Waiting"),
     ("countAtLimit", "The count at AUTH_LIM: 11 at part 1.", [AUTH_LIM_0102, failed(0x0102)], [TO_ACTIVE, sent([0x1A, 0x00], 11, random=RND_B)], [],
      "Waiting"),
-    ("dataProtKey", "8.6.3's WRITEs of the key 000102..0F as DataProtKey, and a login with it; the count 20 is lowered by 16.",
-     [AUTH_LIM_0028, failed(20)],
-     [TO_ACTIVE] + key_writes(0x30) + [part_1(0, KEY_863, B_2), part_2(KEY_863, A_2, B_2)], key_pages(0x30) + [failed(4)], "Authenticated"),
-    ("uidRetrKey", "The same as UIDRetrKey, with Random ID on: TRACEABLE shows the serial number. The count 5 is set to 0.",
-     [AUTH_LIM_0028, RANDOM_ID, failed(5)],
-     [TO_ACTIVE] + key_writes(0x34) + [part_1(1, KEY_863, B_2), part_2(KEY_863, A_2, B_2), sent([0x3A, 0x00, 0x02], 0, data(stored(0x00, 0x02)))],
-     key_pages(0x34) + [failed(0)], "Traceable"),
     ("originalityKey", "A login with the originality key leaves ACTIVE; with AUTH_LIM 0 the count stays.", [failed(7)],
      [TO_ACTIVE, part_1(2, ORIGINALITY, B_2), part_2(ORIGINALITY, A_2, B_2)], [], "Active"),
     ("keyNumber3", "Key number 3: 5, and so is FFh.", [], each(sent([0x1A, 0x03], 5), sent([0x1A, 0xFF], 5)), [],
@@ -831,18 +838,27 @@ def rows(name, table):
 
 
 THEMES = [
-    ("CasesFrames.antt", "frameCases", FRAMES),
-    ("CasesReading.antt", "readingCases", READING),
-    ("CasesLocks.antt", "lockCases", LOCKS),
-    ("CasesSettings.antt", "settingCases", SETTINGS),
-    ("CasesCounters.antt", "counterCases", COUNTERS),
-    ("CasesLogins.antt", "loginCases", LOGINS),
+    ("Frames", "frameCases", FRAMES),
+    ("Reading", "readingCases", READING),
+    ("Locks", "lockCases", LOCKS),
+    ("PairLocks", "pairLockCases", PAIR_LOCKS),
+    ("Settings", "settingCases", SETTINGS),
+    ("Counters", "counterCases", COUNTERS),
+    ("Logins", "loginCases", LOGINS),
 ]
 
 
-def all_rows():
-    joined = named_list("cases", "Case", ["documentCases"] + [name for _, name, _ in THEMES], "++", "")
-    return rows("documentCases", DOCUMENT) + "\n\n" + joined + "\n\nabbrev pub CasesRight : Type 0\nCasesRight = T (allRight cases)\n"
+# a statement over a list of rows
+def statement(name, test, joined):
+    return "\n\nabbrev pub %s : Type 0\n%s = T (%s %s)\n" % (name, name, test, joined)
+
+
+def document_rows():
+    return rows("cases", DOCUMENT + KEY_LOGINS) + statement("CasesRight", "allRight", "cases")
+
+
+def themes():
+    return named_list("themeCases", "Case", [name for _, name, _ in THEMES], "++", "") + statement("ThemesRight", "allRight", "themeCases")
 
 
 def base():
@@ -940,22 +956,25 @@ def direct_rows():
               "patched base (%s)" % " ∷ ".join([of_place(c) for c in FULL_IMAGE] + ["[]"])),
         value("the record that it holds", "fullTag challenge st", "List ℕ → State → Tag", FULL_TAG),
     ]
-    states = [begun_row(*r) for r in BEGUN] + [named_list("stateRows", "Direct", [r[2] for r in BEGUN])]
     joined = named_list("direct", "Direct", ["stateRows"] + [name for name, _, _ in LISTS], "++", "")
-    statement = "abbrev pub DirectRight : Type 0\nDirectRight = T (allDirectRight direct)\n"
-    return "\n\n".join(states + values + [list_row(*r) for r in LISTS] + [joined, statement])
+    return "\n\n".join(values + [list_row(*r) for r in LISTS] + [joined]) + statement("DirectRight", "allDirectRight", "direct")
 
 
-SPECS = os.path.join(os.path.dirname(os.path.abspath(__file__)), "..", "crates", "model", "specs")
+def state_rows():
+    return "\n\n".join([begun_row(*r) for r in BEGUN] + [named_list("stateRows", "Direct", [r[2] for r in BEGUN])]) + "\n"
+
+
+CRATES = os.path.join(os.path.dirname(os.path.abspath(__file__)), "..", "crates")
 MARK = "-- ---- from here on written by tools/cases.py\n\n"
-FILES = [("CaseImages.antt", base()), ("Cases.antt", all_rows()), ("CasesDirect.antt", direct_rows())]
-FILES += [(name, rows(joined, table) + "\n") for name, joined, table in THEMES]
+FILES = [("model/specs/CaseImages.antt", base()), ("model/specs/Cases.antt", document_rows())]
+FILES += [("cases/specs/%s.antt" % name, rows(joined, table) + "\n") for name, joined, table in THEMES]
+FILES += [("cases/specs/Themes.antt", themes()), ("cases/specs/States.antt", state_rows()), ("cases/specs/Direct.antt", direct_rows())]
 
 
 def main():
     right = True
     for name, text in FILES:
-        path = os.path.join(SPECS, name)
+        path = os.path.join(CRATES, name)
         with open(path, encoding="utf-8") as f:
             there = f.read()
         kept, mark, _ = there.partition(MARK)

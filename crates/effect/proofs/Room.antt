@@ -26,7 +26,9 @@ use Rattle.model.specs.Numbers.{numberIf, kept, refused, answered, acknowledged
 use Rattle.model.specs.Reading.{readBarred, readNumber, fastReadNumber}
 use Rattle.model.specs.Authentication.{challenged, proved}
 use Rattle.model.specs.Frame.{misfit, commandNumber, commandDone, halted, frameNumber, notDone, decide}
+use Rattle.bits.proofs.Neither.{neither-right}
 use Rattle.model.proofs.Numbers.{decide-not}
+use Rattle.model.proofs.Misfit.{fits-room}
 use Rattle.model.proofs.Carried.{first-zero, numberIf-zero, carried}
 use Rattle.effect.specs.Speaking.{saidSize}
 
@@ -43,26 +45,7 @@ module _ (m : Map) (room : ℕ) (big : replySize m ≤ room) where
   pub block-fits : (b : ℕ) → 5 ≤ m .pages → saidSize (Block b) ≤ room
   block-fits b five = omega arith
 
--- the second of four checks didn't apply
-second-false : (a b c d : Bool) → (a || b || c || d) ≡ false → b ≡ false
-second-false true true c d h = h
-second-false true false c d h = refl
-second-false false true c d h = h
-second-false false false c d h = refl
-
--- the second of two
-right-false : (a b : Bool) → (a || b) ≡ false → b ≡ false
-right-false true true h = h
-right-false true false h = refl
-right-false false b h = h
-
 module _ (m : Map) (tag : Tag) (s f random : List ℕ) (room : ℕ) (five : 5 ≤ m .pages) where
-  fits-big : misfit m tag s random room ≡ false → replySize m ≤ room
-  unfolding misfit
-  fits-big h =
-      ltb-false room (replySize m)
-      (second-false (not (eqb (length s) (storeSize m))) (ltb room (replySize m)) (not (eqb (length random) 16)) (not (possible tag)) h)
-
   -- a command that is carried out
   done-fits : (c : Command) → commandNumber c m tag s f ≡ 0 → replySize m ≤ room → saidSize (commandDone c m tag s f random .say) ≤ room
   unfolding commandNumber commandDone readNumber fastReadNumber answered acknowledged challenged proved halted
@@ -74,7 +57,7 @@ module _ (m : Map) (tag : Tag) (s f random : List ℕ) (room : ℕ) (five : 5 �
       let p = getD f 1 0 in
       let q = getD f 2 0 in
       let both = first-zero (numberIf (ltb q p || ltb (lastPage m) q) 5) (numberIf (readBarred m (tag .state) s q) 6) own .0 in
-      let last = right-false (ltb q p) (ltb (lastPage m) q) (numberIf-zero (ltb q p || ltb (lastPage m) q) 4 both) in
+      let last = neither-right (ltb q p) (ltb (lastPage m) q) (numberIf-zero (ltb q p || ltb (lastPage m) q) 4 both) in
       range-fits m room big p q (omega arith) (ltb-false (lastPage m) q last)
   done-fits Write own big = omega arith
   done-fits ReadCnt own big = count-fits m room big (getD f 1 0) (omega arith)
@@ -93,7 +76,7 @@ module _ (m : Map) (tag : Tag) (s f random : List ℕ) (room : ℕ) (five : 5 �
   unfolding notDone
   by-number zero h =
       let c = carried m tag s f random room h in
-      rw (c .decided) (done-fits (c .command) (c .own) (fits-big (c .fits)))
+      rw (c .decided) (done-fits (c .command) (c .own) (fits-room m tag s random room (c .fits)))
   by-number (suc n) h =
       rw (decide-not m tag s f random room (λ z. omega arith))
       (not-fits (eqb (frameNumber m tag s f random room) 1 || eqb (frameNumber m tag s f random room) 10) _ _)

@@ -1,7 +1,7 @@
 // What a decision says: the only code that writes the reply buffer. Data is laid over its start, and one function puts CRC_A behind it.
 use judge::counters;
-use judge::record;
-use judge::settings;
+use memory::record;
+use memory::settings;
 use model::Map;
 use model::Reply;
 use model::Say;

@@ -42,7 +42,7 @@ fn load_number(image: &[u8], store: &[u8]) -> u8
     ensures { λ r. ⌜ r ≡ loadNumber (now (image .entry)) (now (store .entry)) ⌝ }
 {
     let map = mf0aes20();
-    let size = judge::sizes::store_size(map);
+    let size = memory::sizes::store_size(map);
     first(
         number_if(store.len() != size, 10),
         number_if(!reading::image_right(map, image), 12),
@@ -81,10 +81,10 @@ fn save_number(tag: Tag, store: &[u8], room: usize) -> u8
     ensures { λ r. ⌜ r ≡ saveNumber tag (now (store .entry)) room ⌝ }
 {
     let map = mf0aes20();
-    let size = judge::sizes::store_size(map);
+    let size = memory::sizes::store_size(map);
     let needed = sizes::image_size(map);
     number_if(
-        (store.len() != size) | (room < needed) | !judge::record::possible(tag),
+        (store.len() != size) | (room < needed) | !memory::record::possible(tag),
         10,
     )
 }

@@ -1,6 +1,6 @@
 // Where the count byte of each section of an image stands, and how long an image is (document 01, "Image file"). All of it follows from the
 // number of pages, of which a map has at most 255.
-use judge::sizes;
+use memory::sizes;
 use model::Map;
 ghost use mathlib.Core.Path.{_≡_};
 ghost use Rattle.model.specs.Image.{countersAt, failedAt, keyAt, imageSize};

@@ -6,7 +6,7 @@ ghost use lib.Dec.{eqb};
 ghost use Rattle.model.specs.declared.Effect.the-variants.{Keep, Failed};
 ghost use Rattle.model.specs.Authentication.{limitReached, raised, lowered, challengeNumber};
 use crate::numbers;
-use crate::settings;
+use memory::settings;
 use model::Effect;
 use model::Map;
 use model::Tag;

@@ -1,8 +1,8 @@
 // Number 10 of a frame (document 01, "The numbers a call answers with").
 ghost use mathlib.Core.Path.{_≡_};
 ghost use Rattle.model.specs.Frame.{misfit};
-use crate::record;
-use crate::sizes;
+use memory::record;
+use memory::sizes;
 use model::Map;
 use model::Tag;
 

@@ -4,8 +4,4 @@ pub mod counters;
 pub mod frame;
 pub mod numbers;
 pub mod reading;
-pub mod record;
-pub mod settings;
-pub mod sizes;
 pub mod telling;
-pub mod writing;

@@ -3,9 +3,9 @@ ghost use mathlib.Core.Path.{_≡_};
 ghost use Rattle.model.specs.Reading.{readBarred, readNumber, fastReadNumber};
 use crate::numbers::first;
 use crate::numbers::number_if;
-use crate::record;
-use crate::settings;
-use crate::sizes::last_page;
+use memory::record;
+use memory::settings;
+use memory::sizes::last_page;
 use model::Map;
 use model::State;
 

@@ -3,7 +3,7 @@ ghost use mathlib.Core.Path.{_≡_};
 ghost use Rattle.model.specs.Telling.{damaged, codeOf, told, allowed, toldNumber};
 use crate::numbers::first;
 use crate::numbers::number_if;
-use crate::record;
+use memory::record;
 use model::Command;
 use model::State;
 use model::Told;

@@ -1,7 +1,6 @@
 -- The claims of specs/CallClaims.antt, each under its name in lower case; three of them are proved in ProofExact.antt and Hidden.antt.
 --
 --   counter-known        READ_CNT is carried out only for a counter that there is
---   fits-possible        a frame that is no misfit finds a record that a tag can have
 --   counter-bounded      such a record's three counters are within their bound
 --   read-cnt-low-first
 --   done-dropped         a command that is carried out leaves zeros for the challenge, or CHALLENGED
@@ -10,25 +9,26 @@
 -- Assumes nothing.
 use mathlib.Core.Path.{_≡_, refl, sym, ap, _∙_}
 use mathlib.Core.List.{List}
-use mathlib.Core.Bool.{Bool, true, false, not, _||_, true≢false}
+use mathlib.Core.Bool.{true, false, true≢false}
 use Prim.Native.Nat.{ℕ, zero, suc, _/_, _%_, _≤_}
 use native.Mathlib.Decide.{ℕ-discrete}
 use native.Mathlib.Omega.{arith}
-use borrow.Author.Tests.{ltb-false, leb-true, not-false}
+use borrow.Author.Tests.{ltb-false, leb-true}
 use lib.Dec.{ltb, leb, eqb}
 use lib.ListN.{length, getD}
 use Rattle.model.specs.declared.Tag.{Tag}
 use Rattle.model.specs.declared.Command.{Command}
 use Rattle.model.specs.declared.Command.the-variants.{Read, FastRead, Write, ReadCnt, IncrCnt, Authenticate, Proof, Halt}
-use Rattle.model.specs.Map.{mf0aes20, storeSize, replySize}
+use Rattle.model.specs.Map.{mf0aes20}
 use Rattle.model.specs.Record.{zeros, isChallenged, exists, counter, highestCounter, highestFailed, possible}
 use Rattle.model.specs.Numbers.{answered, acknowledged}
 use Rattle.model.specs.Telling.{told}
 use Rattle.model.specs.Counters.{readCntNumber}
 use Rattle.model.specs.Authentication.{challenged, proved}
-use Rattle.model.specs.Frame.{misfit, commandNumber, halted, commandDone, saidOf, tagAfter, frame}
+use Rattle.model.specs.Frame.{commandNumber, halted, commandDone, saidOf, tagAfter, frame}
 use Rattle.model.specs.CallClaims.{ReadCntLowFirst, ChallengeDropped}
 use Rattle.model.proofs.Numbers.{decide-number}
+use Rattle.model.proofs.Misfit.{fits-possible}
 use Rattle.model.proofs.Demand1.{refusal-ends}
 use Rattle.model.proofs.Carried.{first-zero, numberIf-zero, carried}
 use Rattle.model.proofs.ProofExact.{both-true}
@@ -40,16 +40,6 @@ pub use Rattle.model.proofs.Hidden.{random-id-hides, keys-hidden}
 counter-known : (tag : Tag) (s f : List ℕ) → commandNumber ReadCnt mf0aes20 tag s f ≡ 0 → getD f 1 0 ≤ 2
 unfolding commandNumber readCntNumber
 counter-known tag s f h = ltb-false 2 (getD f 1 0) (numberIf-zero _ 4 (first-zero _ _ h .0))
-
-or-false-right : (a b : Bool) → a || b ≡ false → b ≡ false
-or-false-right true b h = absurd (true≢false h)
-or-false-right false b h = h
-
-fits-possible : (tag : Tag) (s random : List ℕ) (room : ℕ) → misfit mf0aes20 tag s random room ≡ false → possible tag ≡ true
-unfolding misfit
-fits-possible tag s random room h =
-    not-false (possible tag)
-    (or-false-right (not (eqb (length s) (storeSize mf0aes20)) || ltb room (replySize mf0aes20) || not (eqb (length random) 16)) _ h)
 
 counter-bounded : (tag : Tag) → possible tag ≡ true → (n : ℕ) → n ≤ 2 → counter tag n ≤ highestCounter
 unfolding possible
@@ -74,7 +64,7 @@ read-cnt-low-first tag s f random room code z =
     let same : c .command ≡ ReadCnt = cc (c .known, ap told code) in
     let v : ℕ = counter tag (getD f 1 0) in
     let known = counter-known tag s f (rw same at (c .own)) in
-    let low : v ≤ highestCounter = counter-bounded tag (fits-possible tag s random room (c .fits)) (getD f 1 0) known in
+    let low : v ≤ highestCounter = counter-bounded tag (fits-possible mf0aes20 tag s random room (c .fits)) (getD f 1 0) known in
     record {
       b0 = v % 256;
       b1 = v / 256 % 256;

@@ -1,6 +1,6 @@
--- The bench cases: the statements of specs/Cases.antt and specs/CasesDirect.antt, by computing every row.
+-- Document 01's bench cases: the statement of specs/Cases.antt, by computing every row.
 --
---   cases-right, direct-right     the two statements
+--   cases-right     the statement
 --
 -- Assumes nothing.
 use Rattle.bits.specs.Bits.{bitOf, oneWay}
@@ -13,7 +13,7 @@ use Rattle.fips197.specs.Cipher.{round, rounds, lastRound, cipher, encipher, in
 use Rattle.fips197.specs.Cbc.{xorBlock, blockOf, cbcEncipher, cbcDecipher}
 use Rattle.model.specs.Map.{mf0aes20}
 use Rattle.model.specs.Settings.{randomIdOn, auth0, readProtected, configLocked, incrOpen, readOpen, authLimit, keyLockBit}
-use Rattle.model.specs.Record.{exists, possible, power, select}
+use Rattle.model.specs.Record.{exists, possible}
 use Rattle.model.specs.Numbers.{numberIf, first, nibbleOf, kept, refused, answered, acknowledged}
 use Rattle.model.specs.Telling.{damaged, told, allowed, toldNumber}
 use Rattle.model.specs.Reading.{readBarred, readNumber, fastReadNumber, readWindow, fastRange, hidden, shownByte, shownPages}
@@ -28,21 +28,14 @@ use Rattle.model.specs.Image.{imageOf, imageRight, tagOf, storeOf, loadN
 use Rattle.model.specs.Calls.{step}
 use Rattle.model.specs.CaseImages.{patched, base}
 use Rattle.model.specs.CaseForm.{sameSaid, sameState, storedRight, leftRight, lineRight, playedRight, caseRight, allRight}
-use Rattle.model.specs.CasesFrames.{frameCases}
-use Rattle.model.specs.CasesReading.{readingCases}
-use Rattle.model.specs.CasesLocks.{lockCases}
-use Rattle.model.specs.CasesSettings.{settingCases}
-use Rattle.model.specs.CasesCounters.{counterCases}
-use Rattle.model.specs.CasesLogins.{loginCases}
-use Rattle.model.specs.Cases.{documentCases, cases, CasesRight}
-use Rattle.model.specs.CasesDirect.{sameTag, directRight, allDirectRight, stateRows, direct, DirectRight}
+use Rattle.model.specs.Cases.{cases, CasesRight}
 
-computed : CasesRight × DirectRight
+pub cases-right : CasesRight
 unfolding bitOf oneWay crcBit crcBits crcByte crcFrom crcA onAir withCrc
     xtime productOf product sBoxTable sBox invSBoxTable invSBox
     subBytes invSubBytes shiftRows invShiftRows mixColumns invMixColumns addRoundKey powerOfX nextWord expand keyExpansion
     round rounds lastRound cipher encipher invRound invRounds invLastRound invCipher decipher xorBlock blockOf cbcEncipher cbcDecipher
-    mf0aes20 randomIdOn auth0 readProtected configLocked incrOpen readOpen authLimit keyLockBit exists possible power select
+    mf0aes20 randomIdOn auth0 readProtected configLocked incrOpen readOpen authLimit keyLockBit exists possible
     numberIf first nibbleOf kept refused answered acknowledged damaged told allowed toldNumber
     readBarred readNumber fastReadNumber readWindow fastRange hidden shownByte shownPages
     auth0Bars randomIdBars ownLockBars pairLockBars keyLockBars configLockBars barred writeNumber freezeRows pairFreezeRows frozen merged keepOf openedOf written
@@ -51,12 +44,5 @@ unfolding bitOf oneWay crcBit crcBits crcByte crcFrom crcA onAir withCrc
     misfit commandNumber halted commandDone frameNumber notDone decide saidOf countersAfter failedAfter storeAfter tagAfter frame
     imageOf imageRight tagOf storeOf loadNumber load saveNumber save step patched base
     sameSaid sameState storedRight leftRight lineRight playedRight caseRight allRight
-    documentCases frameCases readingCases lockCases settingCases counterCases loginCases cases
-    sameTag directRight allDirectRight stateRows direct
-computed = (tt, tt)
-
-pub cases-right : CasesRight
-cases-right = computed .0
-
-pub direct-right : DirectRight
-direct-right = computed .1
+    cases
+cases-right = tt

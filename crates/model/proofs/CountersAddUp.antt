@@ -126,7 +126,7 @@ module _ (b : Box) (f random : List ℕ) (room n : ℕ) (v : Valid b) where
 
 pub counters-step : (b : Box) (c : Call) (n : ℕ) → Valid b → Fit c
     → counter (step b c .next .tag) n ≡ counter (b .tag) n + added n c (step b c .number)
-unfolding step added record′.power record′.select
+unfolding step added
 counters-step b power n v h = sym (add-zero (counter (b .tag) n))
 counters-step b select n v h = sym (add-zero (counter (b .tag) n))
 counters-step b (calls.frame f random room) n v h = counters-frame b f random room n v (answered-so b f random room v h)

@@ -137,11 +137,11 @@ keeps-all tag s f random room h =
 -- ---- the other calls
 
 pub power-keeps-stored : PowerKeepsStored
-unfolding step record′.power storedOf
+unfolding step storedOf
 power-keeps-stored b = record { number = refl; silent = refl; kept = refl; state = refl; challenge = refl }
 
 pub select-keeps-stored : SelectKeepsStored
-unfolding step record′.select storedOf
+unfolding step storedOf
 select-keeps-stored b = record { number = refl; silent = refl; kept = refl; state = refl; challenge = refl }
 
 one-of-two : (a b : Bool) → let n = first (numberIf a 10) (numberIf b 12) in (n ≡ 0 → ⊥) → (n ≡ 10) ⊎ (n ≡ 12)

@@ -46,7 +46,7 @@ Asleep b = isWaiting (b .tag .state) ≡ true
 
 -- a boundary goes by the stored part alone
 resets : (b e : Box) (c : Call) → boundary c ≡ true → storedOf b ≡ storedOf e → step b c ≡ step e c
-unfolding step storedOf boundary record′.power record′.select
+unfolding step storedOf boundary
 resets b e power h p =
     λ i. record {
       number = 0;

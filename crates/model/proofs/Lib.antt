@@ -1,4 +1,5 @@
 pub mod Numbers
+pub mod Misfit
 pub mod Demand1
 pub mod Carried
 pub mod Valid

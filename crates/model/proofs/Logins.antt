@@ -82,7 +82,7 @@ module _ (b : Box) (f random : List ℕ) (room : ℕ) (x : Session) (held : Hold
 
 pub session-step : (b : Box) (c : Call) (x : Session) → Valid b → Fit c → Holds (b .tag .state) x
     → Holds (step b c .next .tag .state) (followed x c (step b c .number))
-unfolding step record′.power record′.select
+unfolding step
 session-step b power x v h held = tt
 session-step b select x v h held = tt
 session-step b (calls.frame f random room) x v h held = session-frame b f random room x held (answered-so b f random room v h)

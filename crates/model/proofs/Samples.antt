@@ -23,7 +23,7 @@ use Rattle.fips197.specs.Cipher.{round, rounds, lastRound, cipher, encipher, in
 use Rattle.fips197.specs.Cbc.{xorBlock, blockOf, cbcEncipher, cbcDecipher}
 use Rattle.model.specs.Map.{mf0aes20}
 use Rattle.model.specs.Settings.{randomIdOn, auth0, readProtected, configLocked, incrOpen, readOpen, authLimit, keyLockBit}
-use Rattle.model.specs.Record.{exists, possible, power, select}
+use Rattle.model.specs.Record.{exists, possible}
 use Rattle.model.specs.Numbers.{numberIf, first, nibbleOf, kept, refused, answered, acknowledged}
 use Rattle.model.specs.Telling.{damaged, told, allowed, toldNumber}
 use Rattle.model.specs.Reading.{readBarred, readNumber, fastReadNumber, readWindow, fastRange, hidden, shownByte, shownPages}
@@ -51,7 +51,7 @@ unfolding bitOf oneWay crcBit crcBits crcByte crcFrom crcA onAir withCrc
     xtime productOf product sBoxTable sBox invSBoxTable invSBox
     subBytes invSubBytes shiftRows invShiftRows mixColumns invMixColumns addRoundKey powerOfX nextWord expand keyExpansion
     round rounds lastRound cipher encipher invRound invRounds invLastRound invCipher decipher xorBlock blockOf cbcEncipher cbcDecipher
-    mf0aes20 randomIdOn auth0 readProtected configLocked incrOpen readOpen authLimit keyLockBit exists possible power select
+    mf0aes20 randomIdOn auth0 readProtected configLocked incrOpen readOpen authLimit keyLockBit exists possible
     numberIf first nibbleOf kept refused answered acknowledged damaged told allowed toldNumber
     readBarred readNumber fastReadNumber readWindow fastRange hidden shownByte shownPages
     auth0Bars randomIdBars ownLockBars pairLockBars keyLockBars configLockBars barred writeNumber freezeRows pairFreezeRows frozen merged keepOf openedOf written
@@ -79,7 +79,7 @@ unfolding bitOf oneWay crcBit crcBits crcByte crcFrom crcA onAir withCrc
     xtime productOf product sBoxTable sBox invSBoxTable invSBox
     subBytes invSubBytes shiftRows invShiftRows mixColumns invMixColumns addRoundKey powerOfX nextWord expand keyExpansion
     round rounds lastRound cipher encipher invRound invRounds invLastRound invCipher decipher xorBlock blockOf cbcEncipher cbcDecipher
-    mf0aes20 randomIdOn auth0 readProtected configLocked incrOpen readOpen authLimit keyLockBit exists possible power select
+    mf0aes20 randomIdOn auth0 readProtected configLocked incrOpen readOpen authLimit keyLockBit exists possible
     numberIf first nibbleOf kept refused answered acknowledged damaged told allowed toldNumber
     readBarred readNumber fastReadNumber readWindow fastRange hidden shownByte shownPages
     auth0Bars randomIdBars ownLockBars pairLockBars keyLockBars configLockBars barred writeNumber freezeRows pairFreezeRows frozen merged keepOf openedOf written
@@ -94,7 +94,7 @@ unfolding bitOf oneWay crcBit crcBits crcByte crcFrom crcA onAir withCrc
     xtime productOf product sBoxTable sBox invSBoxTable invSBox
     subBytes invSubBytes shiftRows invShiftRows mixColumns invMixColumns addRoundKey powerOfX nextWord expand keyExpansion
     round rounds lastRound cipher encipher invRound invRounds invLastRound invCipher decipher xorBlock blockOf cbcEncipher cbcDecipher
-    mf0aes20 randomIdOn auth0 readProtected configLocked incrOpen readOpen authLimit keyLockBit exists possible power select
+    mf0aes20 randomIdOn auth0 readProtected configLocked incrOpen readOpen authLimit keyLockBit exists possible
     numberIf first nibbleOf kept refused answered acknowledged damaged told allowed toldNumber
     readBarred readNumber fastReadNumber readWindow fastRange hidden shownByte shownPages
     auth0Bars randomIdBars ownLockBars pairLockBars keyLockBars configLockBars barred writeNumber freezeRows pairFreezeRows frozen merged keepOf openedOf written

@@ -197,7 +197,7 @@ fits-valid b random room v hr room′ =
     simp (eq-eqb _ _ (v .size), le-ltb room (replySize mf0aes20) room′, eq-eqb _ _ hr, possible-valid b v)
 
 pub valid-step : (b : Box) (c : Call) → Valid b → Fit c → Valid (step b c .next)
-unfolding step record′.power record′.select frame exists
+unfolding step frame exists
 valid-step b power v h = record {
   size = v .size;
   bytes = v .bytes;

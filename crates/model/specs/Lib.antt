@@ -18,13 +18,6 @@ pub mod CallClaims
 pub mod ImageClaims
 pub mod CaseImages
 pub mod CaseForm
-pub mod CasesFrames
-pub mod CasesReading
-pub mod CasesLocks
-pub mod CasesSettings
-pub mod CasesCounters
-pub mod CasesLogins
 pub mod Cases
-pub mod CasesDirect
 pub mod Struck
 pub mod Samples

@@ -82,10 +82,10 @@ fleeting st ch tag = record {
 }
 
 -- the two events: any record is taken, its stored part is handed on, and nothing of a login or a challenge is left
-unfoldable pub power : Tag → Tag
+abbrev pub power : Tag → Tag
 power tag = fleeting Waiting zeros tag
 
-unfoldable pub select : Tag → Tag
+abbrev pub select : Tag → Tag
 select tag = fleeting Active zeros tag
 
 abbrev pub zeroTag : Tag

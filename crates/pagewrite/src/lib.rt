@@ -5,7 +5,7 @@ ghost use mathlib.Core.Bool.{cond};
 ghost use Prim.Native.Nat.{_/_};
 ghost use Rattle.model.specs.declared.Masks.{Masks};
 ghost use Rattle.model.specs.Writing.{freezeRows, pairFreezeRows, frozen, merged, keepOf, lockOpened, pairLockOpened, openedOf, written};
-use judge::settings::bit_set;
+use memory::settings::bit_set;
 use model::Map;
 use model::Masks;
 use model::Quad;

@@ -2,4 +2,3 @@ pub mod Bytes
 pub mod Fits
 pub mod Frames
 pub mod PartTwo
-pub mod Ruling

@@ -1,9 +1,8 @@
 // What a frame comes to: the checks in document 01's order, then the command. It only reads.
-use crate::commands;
 use crate::login;
 use effect::deciding;
-use judge::record;
 use judge::telling;
+use memory::record;
 use model::Command;
 use model::Decision;
 use model::Effect;

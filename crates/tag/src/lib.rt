@@ -1,5 +1,4 @@
 // The calls of the tag: power, select, frame, load and save. None asks anything of its caller; each is its definition of the same name in `model`.
-mod commands;
 mod deciding;
 mod keys;
 mod login;
@@ -24,18 +23,23 @@ pub struct Answer {
     pub tag: Tag,
 }
 
-// The record with another state and no challenge.
-fn in_state(tag: Tag, st: State) -> Tag
-    ensures { λ r. ⌜ r ≡ fleeting st zeros tag ⌝ }
+// What an event hands back: 0 with silence, and the record in another state with no challenge.
+fn event(tag: Tag, st: State) -> Answer
+    ensures { λ r. ⌜ r ≡ record { number = 0; reply = Silence; tag = fleeting st zeros tag } ⌝ }
 {
     let counters = tag.counters;
     let originality = tag.originality;
-    Tag {
+    let next = Tag {
         counters,
         failed: tag.failed,
         originality,
         state: st,
         challenge: [0u8; 16],
+    };
+    Answer {
+        number: 0,
+        reply: Reply::Silence,
+        tag: next,
     }
 }
 
@@ -43,24 +47,14 @@ fn in_state(tag: Tag, st: State) -> Tag
 pub fn power(tag: Tag) -> Answer
     ensures { λ r. ⌜ r ≡ record { number = 0; reply = Silence; tag = power tag } ⌝ }
 {
-    let next = in_state(tag, State::Waiting);
-    Answer {
-        number: 0,
-        reply: Reply::Silence,
-        tag: next,
-    }
+    event(tag, State::Waiting)
 }
 
 // The reader selects the tag, whatever its state.
 pub fn select(tag: Tag) -> Answer
     ensures { λ r. ⌜ r ≡ record { number = 0; reply = Silence; tag = select tag } ⌝ }
 {
-    let next = in_state(tag, State::Active);
-    Answer {
-        number: 0,
-        reply: Reply::Silence,
-        tag: next,
-    }
+    event(tag, State::Active)
 }
 
 // A frame, with sixteen random bytes and a buffer for the reply.

@@ -2,7 +2,7 @@
 use crate::keys;
 use effect::deciding;
 use judge::authentication;
-use judge::record;
+use memory::record;
 use model::Decision;
 use model::Effect;
 use model::Map;

@@ -11,7 +11,8 @@ use Rattle.model.specs.declared.Effect.the-variants.{Keep}
 use Rattle.model.specs.Numbers.{refused}
 use Rattle.model.specs.Telling.{told, toldNumber}
 use Rattle.model.proofs.Stages.{decide-told-refused, decide-known}
-use Rattle.tag.proofs.Fits.{fits-random, fits-failed, whole-long}
+use Rattle.model.proofs.Misfit.{fits-random}
+use Rattle.tag.proofs.Fits.{fits-failed, whole-long}
 use Rattle.tag.proofs.deciding.told.Statement.{statement}
 use Rattle.tag.proofs.deciding.told.Tie as tie
 

@@ -7,7 +7,7 @@ use denote.Ref.{now}
 use Rattle.model.specs.declared.Command.the-variants.{Authenticate}
 use Rattle.model.specs.Authentication.{challengeNumber, challenged}
 use Rattle.model.specs.Frame.{commandNumber, commandDone}
-use Rattle.tag.proofs.Ruling.{done-by, refused-by, authenticate-other}
+use Rattle.commands.proofs.Ruling.{done-by, refused-by, authenticate-other}
 use Rattle.tag.proofs.login.authenticate.Statement.{statement}
 use Rattle.tag.proofs.login.authenticate.Tie as tie
 

@@ -1,0 +1,141 @@
+-- Bench cases: AUTHENTICATE, 009 Table 17's login, logins after 8.6.3's WRITEs, and the failed count.
+--
+--     loginCases     the cases
+--
+-- tools/cases.py works every value out; Themes.antt joins the lists. Assumes nothing.
+use mathlib.Core.List.{List, [], _∷_, _++_}
+use Rattle.model.specs.declared.State.the-variants.{Waiting, Active, Traceable, Authenticated}
+use Rattle.model.specs.Frame.{silence, nibble, bytes}
+use Rattle.model.specs.CaseImages.{hex, page, failed, patched, base}
+use Rattle.model.specs.CaseForm.{Case, selected, toActive, sentWith, sent, ack}
+
+-- ---- from here on written by tools/cases.py
+
+-- A proof whose last bit is wrong, AUTH_LIM 0102h: 8, and the count goes from 0101h to 0102h. The next frame is 1.
+abbrev pub falseProof : Case
+falseProof = record {
+  image =
+      patched base (
+      page 0x30 (hex 16 0x00000000_00000000_00000000_00000000) ∷
+      page 0x2a (hex 4 0x0c050201) ∷
+      failed (hex 2 0x0101) ∷ []);
+  lines =
+      toActive ++ (
+      sentWith (hex 16 0x1ae4174ca173ebbc59165cebe2f20821) (hex 4 0x1a00_4176) 0
+      (bytes (hex 19 0xaf_d5a847b84862ff3874a7f07b8ddf351b_87e7)) ∷
+      sent (hex 35 0xaf_cdf22c5f7a92f0af0155612b9b236ac7_37c3e1ee82f4fc1c007ef3dcbc3d1674_6098) 8 (nibble 0x0) ∷
+      sent (hex 4 0x3004_26ee) 1 silence ∷ []);
+  changed = failed (hex 2 0x0201) ∷ [];
+  state = Waiting;
+}
+
+-- Table 17's proof with one bit changed and the CRC kept, AUTH_LIM 0102h: 2, and the count stays.
+abbrev pub garbledProof : Case
+garbledProof = record {
+  image =
+      patched base (
+      page 0x30 (hex 16 0x00000000_00000000_00000000_00000000) ∷
+      page 0x2a (hex 4 0x0c050201) ∷
+      failed (hex 2 0x0101) ∷ []);
+  lines =
+      toActive ++ (
+      sentWith (hex 16 0x1ae4174ca173ebbc59165cebe2f20821) (hex 4 0x1a00_4176) 0
+      (bytes (hex 19 0xaf_d5a847b84862ff3874a7f07b8ddf351b_87e7)) ∷
+      sent (hex 35 0xaf_cdf22c5f7a92f0af0155612b9b236ac7_a424bc4238d41ad041b8165b7d99e524_334a) 2 (nibble 0x1) ∷ []);
+  changed = [];
+  state = Waiting;
+}
+
+-- The count at AUTH_LIM: 11 at part 1.
+abbrev pub countAtLimit : Case
+countAtLimit = record {
+  image = patched base (page 0x2a (hex 4 0x0c050201) ∷ failed (hex 2 0x0201) ∷ []);
+  lines = toActive ++ (sentWith (hex 16 0x1ae4174ca173ebbc59165cebe2f20821) (hex 4 0x1a00_4176) 11 (nibble 0x4) ∷ []);
+  changed = [];
+  state = Waiting;
+}
+
+-- A login with the originality key leaves ACTIVE; with AUTH_LIM 0 the count stays.
+abbrev pub originalityKey : Case
+originalityKey = record {
+  image = patched base (failed (hex 2 0x0700) ∷ []);
+  lines =
+      toActive ++ (
+      sentWith (hex 16 0x00112233445566778899aabbccddeeff) (hex 4 0x1a02_5355) 0
+      (bytes (hex 19 0xaf_8df4e9aac5c7573a27d8d055d6e4d64b_ace3)) ∷
+      sent (hex 35 0xaf_4886271e5d6120a3f1f360036fbb4bda_fa8cb0fd86498ca3165d7b7a20053ce0_7cb8) 0
+      (bytes (hex 19 0x00_629216a7fb29996c579b4c9da4856562_313f)) ∷ []);
+  changed = [];
+  state = Active;
+}
+
+-- Key number 3: 5, and so is FFh.
+abbrev pub keyNumber3 : Case
+keyNumber3 = record {
+  image = base;
+  lines = toActive ++ (sent (hex 4 0x1a03_da44) 5 (nibble 0x0) ∷ selected ∷ sent (hex 4 0x1aff_3979) 5 (nibble 0x0) ∷ []);
+  changed = [];
+  state = Waiting;
+}
+
+-- Key number 3 with the count at AUTH_LIM: 5.
+abbrev pub keyNumberBeforeLimit : Case
+keyNumberBeforeLimit = record {
+  image = patched base (page 0x2a (hex 4 0x0c050201) ∷ failed (hex 2 0x0201) ∷ []);
+  lines = toActive ++ (sent (hex 4 0x1a03_da44) 5 (nibble 0x0) ∷ []);
+  changed = [];
+  state = Waiting;
+}
+
+-- The count above AUTH_LIM, whose reserved bits are set: 11 at part 1 with each key.
+abbrev pub limitEachKey : Case
+limitEachKey = record {
+  image = patched base (page 0x2a (hex 4 0x0c0502fd) ∷ failed (hex 2 0x0301) ∷ []);
+  lines =
+      toActive ++ (
+      sent (hex 4 0x1a00_4176) 11 (nibble 0x4) ∷
+      selected ∷ sent (hex 4 0x1a01_c867) 11 (nibble 0x4) ∷
+      selected ∷ sent (hex 4 0x1a02_5355) 11 (nibble 0x4) ∷ []);
+  changed = [];
+  state = Waiting;
+}
+
+-- READ while CHALLENGED: 3; AUTH_LIM 0102h, and the count stays. The next frame is 1.
+abbrev pub readWhileChallenged : Case
+readWhileChallenged = record {
+  image =
+      patched base (
+      page 0x30 (hex 16 0x00000000_00000000_00000000_00000000) ∷
+      page 0x2a (hex 4 0x0c050201) ∷
+      failed (hex 2 0x0101) ∷ []);
+  lines =
+      toActive ++ (
+      sentWith (hex 16 0x1ae4174ca173ebbc59165cebe2f20821) (hex 4 0x1a00_4176) 0
+      (bytes (hex 19 0xaf_d5a847b84862ff3874a7f07b8ddf351b_87e7)) ∷
+      sent (hex 4 0x3004_26ee) 3 (nibble 0x0) ∷
+      sent (hex 4 0x3004_26ee) 1 silence ∷ []);
+  changed = [];
+  state = Waiting;
+}
+
+-- AFh with a byte too few while CHALLENGED: 4; AUTH_LIM 0102h, and the count stays.
+abbrev pub shortProof : Case
+shortProof = record {
+  image =
+      patched base (
+      page 0x30 (hex 16 0x00000000_00000000_00000000_00000000) ∷
+      page 0x2a (hex 4 0x0c050201) ∷
+      failed (hex 2 0x0101) ∷ []);
+  lines =
+      toActive ++ (
+      sentWith (hex 16 0x1ae4174ca173ebbc59165cebe2f20821) (hex 4 0x1a00_4176) 0
+      (bytes (hex 19 0xaf_d5a847b84862ff3874a7f07b8ddf351b_87e7)) ∷
+      sent (hex 34 0xaf_cdf22c5f7a92f0af0155612b9b236ac7_a424bc5238d41ad041b8165b7d99e5_ec77) 4 (nibble 0x0) ∷ []);
+  changed = [];
+  state = Waiting;
+}
+
+unfoldable pub loginCases : List Case
+loginCases =
+    falseProof ∷ garbledProof ∷ countAtLimit ∷ originalityKey ∷ keyNumber3 ∷ keyNumberBeforeLimit ∷ limitEachKey ∷ readWhileChallenged ∷
+    shortProof ∷ []

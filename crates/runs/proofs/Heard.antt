@@ -1,0 +1,96 @@
+-- The reply that a caller has in hand is the reply that the definition says.
+--
+--   said-fits     what a frame says fits the reply buffer that the frame was given
+--   heard-said    so the first bytes of the buffer, as many as the answer counts, are those said
+--
+-- Assumes nothing.
+use mathlib.Core.Path.{_≡_, refl, sym, ap, subst, _∙_}
+use mathlib.Core.Bool.{Bool, true, false, _||_, cond}
+use mathlib.Core.List.{List, []}
+use Prim.Native.Nat.{ℕ, zero, suc, _+_, _-_, _*_, _≤_}
+use native.Mathlib.Omega.{arith}
+use lib.Dec.{eqb}
+use lib.ListN.{length, getD, take}
+use Rattle.octets.proofs.Laid.{take-sets}
+use Rattle.crc.specs.CrcA.{withCrc}
+use Rattle.crc.proofs.Laws.{withCrc-length}
+use Rattle.fips197.specs.State.{addRoundKey}
+use Rattle.fips197.specs.Cipher.{lastRound, cipher, encipher}
+use Rattle.fips197.specs.Cbc.{cbcEncipher}
+use Rattle.model.specs.declared.Map.{Map}
+use Rattle.model.specs.declared.Tag.{Tag}
+use Rattle.model.specs.declared.Decision.{Decision}
+use Rattle.model.specs.declared.Effect.{Effect}
+use Rattle.model.specs.declared.Command.{Command}
+use Rattle.model.specs.declared.Command.the-variants.{Read, FastRead, Write, ReadCnt, IncrCnt, Authenticate, Proof, Halt}
+use Rattle.model.specs.Map.{mf0aes20}
+use Rattle.model.specs.Numbers.{kept, refused, answered, acknowledged}
+use Rattle.model.specs.Reading.{readWindow, fastRange, pagesFrom, shownPages}
+use Rattle.model.specs.Authentication.{challenged, proved}
+use Rattle.model.specs.Frame.{commandDone, halted, frameNumber, notDone, decide, Said, silence, nibble, bytes, saidOf, frame, replyOf, laidOver}
+use Rattle.model.proofs.Numbers.{decide-not}
+use Rattle.model.proofs.Carried.{carried}
+use Rattle.effect.specs.Speaking.{saidSize}
+use Rattle.effect.proofs.Shown.{shown-length}
+use Rattle.effect.proofs.Room.{decided-fits}
+use Rattle.runs.specs.Heard.{heard}
+
+-- the bytes of a reply, in the reply buffer
+abbrev pub inBuffer : Said → ℕ
+inBuffer silence = 0
+inBuffer (nibble n) = 0
+inBuffer (bytes bs) = length bs
+
+abbrev saidBy : Map → Tag → List ℕ → Decision → Said
+saidBy m tag s d = saidOf m tag s (d .block) (d .say)
+
+cbc-length : (key chain b : List ℕ) → length (cbcEncipher key chain b) ≡ 16
+unfolding cbcEncipher encipher cipher lastRound addRoundKey
+cbc-length key chain b = refl
+
+sealed-size : (d : List ℕ) (n : ℕ) → length d ≡ n → length (withCrc d) ≡ n + 2
+sealed-size d n h = withCrc-length d ∙ ap (λ (k : ℕ). k + 2) h
+
+module _ (m : Map) (tag : Tag) (s f random : List ℕ) (room : ℕ) where
+  -- a command that is carried out
+  done-size : (c : Command) → let d = commandDone c m tag s f random in inBuffer (saidBy m tag s d) ≡ saidSize (d .say)
+  unfolding commandDone answered acknowledged challenged proved halted saidOf readWindow fastRange
+  done-size Read = sealed-size _ 16 (shown-length m (tag .state) s (getD f 1 0) 4)
+  done-size FastRead =
+      let p = getD f 1 0 in
+      let q = getD f 2 0 in
+      sealed-size _ (4 * (q + 1 - p)) (shown-length m (tag .state) s p (q + 1 - p))
+  done-size Write = refl
+  done-size ReadCnt = sealed-size _ 3 refl
+  done-size IncrCnt = refl
+  done-size Authenticate = sealed-size _ 17 (ap suc (cbc-length _ _ _))
+  done-size Proof = sealed-size _ 17 (ap suc (cbc-length _ _ _))
+  done-size Halt = refl
+
+  -- a frame that isn't says nothing or a nibble
+  not-size : (t : Bool) (n : ℕ) (e : Effect) → let d = cond t (kept n tag) (refused n e) in inBuffer (saidBy m tag s d) ≡ saidSize (d .say)
+  unfolding kept refused saidOf
+  not-size true n e = refl
+  not-size false n e = refl
+
+  by-number : (n : ℕ) → frameNumber m tag s f random room ≡ n
+      → let d = decide m tag s f random room in inBuffer (saidBy m tag s d) ≡ saidSize (d .say)
+  unfolding notDone
+  by-number zero h = let c = carried m tag s f random room h in rw (c .decided) (done-size (c .command))
+  by-number (suc n) h =
+      rw (decide-not m tag s f random room (λ z. omega arith))
+      (not-size (eqb (frameNumber m tag s f random room) 1 || eqb (frameNumber m tag s f random room) 10) _ _)
+
+five : 5 ≤ mf0aes20 .pages
+unfolding mf0aes20
+five = omega arith
+
+pub said-fits : (tag : Tag) (s f random : List ℕ) (room : ℕ) → inBuffer (frame tag s f random room .said) ≤ room
+unfolding frame
+said-fits tag s f random room =
+    omega (arith, by-number mf0aes20 tag s f random room (frameNumber mf0aes20 tag s f random room) refl, decided-fits mf0aes20 tag s f random room five)
+
+pub heard-said : (buffer : List ℕ) (x : Said) → inBuffer x ≤ length buffer → heard (replyOf x) (laidOver buffer x) ≡ x
+heard-said buffer silence h = refl
+heard-said buffer (nibble n) h = refl
+heard-said buffer (bytes bs) h = ap bytes (take-sets buffer bs h)

@@ -1,0 +1,2 @@
+-- What a program sees of a call's answer.
+pub mod Heard
