@@ -1,6 +1,5 @@
 // The commands: each judges its own numbers, and says what it comes to where none applies. Every function has the same signature, so that the
 // dispatch is one line an arm.
-use effect::deciding;
 use judge::counters;
 use judge::reading;
 use model::Decision;
@@ -33,9 +32,9 @@ pub fn read(map: Map, tag: Tag, s: &[u8], f: &[u8], random: &[u8]) -> Decision
     let st = tag.state;
     let n = reading::read_number(map, st, s, p);
     if n == 0 {
-        return deciding::answered(tag, Say::Window(p));
+        return decisions::answered(tag, Say::Window(p));
     }
-    deciding::refused(n, Effect::Keep)
+    decisions::refused(n, Effect::Keep)
 }
 
 // FAST_READ, 009 10.3.
@@ -47,9 +46,9 @@ pub fn fast_read(map: Map, tag: Tag, s: &[u8], f: &[u8], random: &[u8]) -> Decis
     let st = tag.state;
     let n = reading::fast_read_number(map, st, s, p, q);
     if n == 0 {
-        return deciding::answered(tag, Say::Range(p, q));
+        return decisions::answered(tag, Say::Range(p, q));
     }
-    deciding::refused(n, Effect::Keep)
+    decisions::refused(n, Effect::Keep)
 }
 
 // WRITE, 009 10.4.
@@ -62,9 +61,9 @@ pub fn write(map: Map, tag: Tag, s: &[u8], f: &[u8], random: &[u8]) -> Decision
     let n = locks::write_number(map, st, s, p, q);
     if n == 0 {
         let w = pagewrite::written(map, s, p, q);
-        return deciding::acknowledged(tag, Effect::Page(p, w));
+        return decisions::acknowledged(tag, Effect::Page(p, w));
     }
-    deciding::refused(n, Effect::Keep)
+    decisions::refused(n, Effect::Keep)
 }
 
 // READ_CNT, 009 10.5.
@@ -75,9 +74,9 @@ pub fn read_cnt(map: Map, tag: Tag, s: &[u8], f: &[u8], random: &[u8]) -> Decisi
     let st = tag.state;
     let n = counters::read_cnt_number(map, st, s, k);
     if n == 0 {
-        return deciding::answered(tag, Say::Count(k));
+        return decisions::answered(tag, Say::Count(k));
     }
-    deciding::refused(n, Effect::Keep)
+    decisions::refused(n, Effect::Keep)
 }
 
 // INCR_CNT, 009 10.6.
@@ -90,9 +89,9 @@ pub fn incr_cnt(map: Map, tag: Tag, s: &[u8], f: &[u8], random: &[u8]) -> Decisi
     if n == 0 {
         let v = counters::counter(tag, k);
         let more = counters::increment(q);
-        return deciding::acknowledged(tag, Effect::Counter(k, v + more));
+        return decisions::acknowledged(tag, Effect::Counter(k, v + more));
     }
-    deciding::refused(n, Effect::Keep)
+    decisions::refused(n, Effect::Keep)
 }
 
 // HLTA, 009 Table 20.
@@ -100,7 +99,7 @@ pub fn halt(map: Map, tag: Tag, s: &[u8], f: &[u8], random: &[u8]) -> Decision
     ensures { λ r. ⌜ r ≡ commanded Halt map tag (now (s .entry)) (now (f .entry)) (now (random .entry)) ⌝ }
 {
     if octets::at(f, 1) == 0 {
-        return deciding::halted();
+        return decisions::halted();
     }
-    deciding::refused(5, Effect::Keep)
+    decisions::refused(5, Effect::Keep)
 }

@@ -1,4 +1,3 @@
 // What a frame leaves behind: the only code that stores and the only code that writes the reply.
-pub mod deciding;
 pub mod speaking;
 pub mod storing;

@@ -109,7 +109,7 @@ fn lay_data(map: Map, tag: Tag, s: &[u8], say: Say, block: [u8; 16], reply: &mut
 }
 
 // CRC_A of the first n bytes behind them, low byte first; returns how many bytes they are with it.
-fn seal(reply: &mut [u8], n: usize) -> usize
+pub fn seal(reply: &mut [u8], n: usize) -> usize
     requires { ⌜ n + 2 ≤ length (now reply) ⌝ }
     ensures { λ r. ⌜ r ≡ n + 2 ⌝ }
     ensures { λ _. ⌜ now (reply .exit) ≡ sets (now (reply .entry)) 0 (withCrc (take n (now (reply .entry)))) ⌝ }

@@ -1,6 +1,6 @@
 // Loading and saving an image file (document 01, "Image file"). Nothing is stored before every check has passed.
 mod reading;
-mod sizes;
+pub mod sizes;
 mod writing;
 
 use judge::numbers::first;

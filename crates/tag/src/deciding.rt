@@ -1,6 +1,5 @@
 // What a frame comes to: the checks in document 01's order, then the command. It only reads.
 use crate::login;
-use effect::deciding;
 use judge::telling;
 use memory::record;
 use model::Command;
@@ -47,11 +46,11 @@ fn told(map: Map, tag: Tag, s: &[u8], f: &[u8], random: &[u8], room: usize) -> D
     let st = tag.state;
     let n = telling::told_number(t, st, f.len());
     if n != 0 {
-        return deciding::refused(n, Effect::Keep);
+        return decisions::refused(n, Effect::Keep);
     }
     match t {
         Told::Known(c, _) => command(c, map, tag, s, f, random),
-        Told::Nothing => deciding::halted(),
+        Told::Nothing => decisions::halted(),
     }
 }
 
@@ -60,14 +59,14 @@ pub fn decide(map: Map, tag: Tag, s: &[u8], f: &[u8], random: &[u8], room: usize
     ensures { λ r. ⌜ r ≡ decide map tag (now (s .entry)) (now (f .entry)) (now (random .entry)) room ⌝ }
 {
     if judge::frame::misfit(map, tag, s, random, room) {
-        return deciding::kept(10, tag);
+        return decisions::kept(10, tag);
     }
     let st = tag.state;
     if record::is_waiting(st) {
-        return deciding::kept(1, tag);
+        return decisions::kept(1, tag);
     }
     if telling::damaged(f) {
-        return deciding::refused(2, Effect::Keep);
+        return decisions::refused(2, Effect::Keep);
     }
     told(map, tag, s, f, random, room)
 }

@@ -1,6 +1,5 @@
 // AUTHENTICATE and its second part, 009 8.6.1, 8.6.5 and 10.10.
 use crate::keys;
-use effect::deciding;
 use judge::authentication;
 use memory::record;
 use model::Decision;
@@ -47,7 +46,7 @@ pub fn authenticate(map: Map, tag: Tag, s: &[u8], f: &[u8], random: &[u8]) -> De
     if n == 0 {
         return challenge(map, tag, s, k, random);
     }
-    deciding::refused(n, Effect::Keep)
+    decisions::refused(n, Effect::Keep)
 }
 
 // The state that key number k leads to.
@@ -102,7 +101,7 @@ fn judge_answer(map: Map, tag: Tag, s: &[u8], f: &[u8], random: &[u8]) -> Decisi
     if keys::same_bytes(ours, keys::rotated(challenge)) {
         return logged(map, tag, s, key, theirs);
     }
-    deciding::refused(8, authentication::raised(map, tag, s))
+    decisions::refused(8, authentication::raised(map, tag, s))
 }
 
 // AUTHENTICATE, part 2.
@@ -112,7 +111,7 @@ pub fn prove(map: Map, tag: Tag, s: &[u8], f: &[u8], random: &[u8]) -> Decision
     ensures { λ r. ⌜ r ≡ commanded Proof map tag (now (s .entry)) (now (f .entry)) (now (random .entry)) ⌝ }
 {
     if authentication::limit_reached(map, tag, s) {
-        return deciding::refused(11, Effect::Keep);
+        return decisions::refused(11, Effect::Keep);
     }
     judge_answer(map, tag, s, f, random)
 }

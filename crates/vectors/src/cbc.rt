@@ -1,5 +1,5 @@
 // Blocks chained in CBC mode.
-use crate::report;
+use playing::report;
 
 // The computed ciphertext comes back: it is the next block's chaining value.
 pub fn encipher(

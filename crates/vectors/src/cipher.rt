@@ -1,6 +1,6 @@
 // Key expansion and single blocks: FIPS 197, Appendices A.1, B and C.1.
-use crate::digits;
-use crate::report;
+use playing::digits;
+use playing::report;
 
 // The key of A.1, of B and of SP 800-38A.
 pub fn example_key() -> [u8; 16] {

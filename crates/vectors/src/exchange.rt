@@ -1,6 +1,6 @@
 // The login of MF0AES(H)20, Table 17: the key is zero, and so is each message's initialization vector.
 use crate::cbc;
-use crate::digits;
+use playing::digits;
 
 const ZERO: [u8; 16] = [0; 16];
 

@@ -1,10 +1,9 @@
-// Outside vectors through the public functions of `aes` and `crc`: a line for each, with its name and whether the value came out.
+// Outside vectors through the public functions of `aes`, `crc` and `tag`: a line for each, with its name and whether the value came out.
 mod cbc;
 mod cipher;
-mod digits;
 mod exchange;
+mod login;
 mod modes;
-mod report;
 mod trailer;
 
 fn main() {
@@ -14,5 +13,7 @@ fn main() {
     modes::cbc();
     trailer::trailers();
     exchange::messages();
+    login::logins();
+    login::changed_reply();
     cipher::changed_byte();
 }

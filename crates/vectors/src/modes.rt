@@ -1,8 +1,8 @@
 // ECB and CBC with AES-128: SP 800-38A, F.1.1, F.1.2, F.2.1 and F.2.2.
 use crate::cbc;
 use crate::cipher;
-use crate::digits;
-use crate::report;
+use playing::digits;
+use playing::report;
 ghost use Prim.Native.Nat.{_<_};
 
 const PLAIN: [u8; 128] = *b"6bc1bee22e409f96e93d7e117393172a\

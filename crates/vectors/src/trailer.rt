@@ -1,5 +1,5 @@
 // CRC_A: the two bytes that follow a frame.
-use crate::report;
+use playing::report;
 
 fn trailer(name: &[u8], frame: &[u8], first: u8, second: u8) {
     let got = crc::on_air(crc::crc_a(frame));

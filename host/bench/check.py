@@ -1,0 +1,323 @@
+#!/usr/bin/env python3
+"""Holds the bench program against the samples, against oracle.py, and against the rules for lines and image files.
+
+    host/bench/check.py                    all of it; the last line is 'N passed, M failed'
+    host/bench/check.py --input N FOLDER   writes random input N and what it must print into FOLDER, to look at
+
+Each test is a function that gives a list of what is wrong. The program is the one of program.py.
+"""
+
+import multiprocessing
+import os
+import random
+import select
+import shutil
+import sys
+import tempfile
+import threading
+import time
+import traceback
+
+import check_tools
+import inputs
+import oracle
+import program
+
+INPUTS = int(os.environ.get("INPUTS", "10000"))
+BLOCKS = 10
+SAMPLES = os.path.join(program.ROOT, "samples")
+
+
+def read(*path):
+    with open(os.path.join(*path), "rb") as f:
+        return f.read()
+
+
+def write(data, *path):
+    name = os.path.join(*path)
+    with open(name, "wb") as f:
+        f.write(data)
+    return name
+
+
+def wrong(name, ended, expected):
+    found = program.difference(ended, expected)
+    return ["%s: %s" % (name, found)] if found else []
+
+
+# ---- the samples
+
+def samples():
+    found = []
+    for name in sorted(os.listdir(SAMPLES)):
+        folder = os.path.join(SAMPLES, name)
+        ended = program.run([os.path.join(folder, "tag.image")], read(folder, "script.txt"))
+        found += wrong(name, ended, read(folder, "expected.txt"))
+    return found
+
+
+# ---- random inputs
+
+def played(i, folder):
+    """One random input; every eighth script goes through a pipe, the others are files."""
+    image, script = inputs.some_input(i)
+    path, text = write(image, folder, "image"), write(script, folder, "script")
+    try:
+        if i % 8 == 0:
+            ended = program.run([path], script)
+        else:
+            with open(text, "rb") as f:
+                ended = program.run([path], stdin=f)
+    except program.Hangs as error:
+        raise program.Hangs("input %d: %s" % (i, error)) from None
+    return wrong("input %d" % i, ended, oracle.output(image, script))
+
+
+def stretch(numbers):
+    with tempfile.TemporaryDirectory() as folder:
+        return [message for i in numbers for message in played(i, folder)]
+
+
+def block_name(block):
+    size = INPUTS // BLOCKS
+    return "random inputs %d to %d, as oracle.py plays them" % (block * size, block * size + size - 1)
+
+
+def random_block(pool, block):
+    size = INPUTS // BLOCKS
+    first = block * size
+    parts = [range(n, min(n + 25, first + size)) for n in range(first, first + size, 25)]
+    return sum(pool.map(stretch, parts, chunksize=1), [])
+
+
+# ---- images that are refused, and files that are none
+
+LINES = b"S\nF 3900\nP\n"
+
+
+def refused_images():
+    base = read(SAMPLES, "example", "tag.image")
+    found = []
+    with tempfile.TemporaryDirectory() as folder:
+        for size, data in ((0, b""), (1, base), (270, base), (272, base + b"\x00"), (542, base + base)):
+            path = write(data[:size], folder, "image of %d bytes" % size)
+            found += wrong("%d bytes" % size, program.run([path], LINES), b"12\n")
+        for name, words in (("missing file", [os.path.join(folder, "none")]), ("folder", [folder]), ("no argument", []), ("empty name", [""]),
+                            ("name of 5,000 letters", ["x" * 5000]), ("path of 5,000 letters", [folder + "/x" * 2500]),
+                            ("file without end", ["/dev/zero"]), ("file without bytes", ["/dev/null"])):
+            found += wrong(name, program.run(words, LINES), b"12\n")
+            found += wrong(name + ", bad line", program.run(words, b"bad\n"), b"12\n")
+        found += wrong("no lines", program.run([os.path.join(SAMPLES, "example", "tag.image")], b""), b"")
+    return found
+
+
+def piped_image():
+    folder = os.path.join(SAMPLES, "example")
+    image = read(folder, "tag.image")
+    with tempfile.TemporaryDirectory() as place:
+        path = os.path.join(place, "image")
+        os.mkfifo(path)
+
+        def feed():
+            with open(path, "wb", buffering=0) as f:
+                f.write(image[:100])
+                time.sleep(0.2)
+                f.write(image[100:])
+        thread = threading.Thread(target=feed, daemon=True)
+        thread.start()
+        ended = program.run([path], read(folder, "script.txt"))
+    return wrong("named pipe", ended, read(folder, "expected.txt"))
+
+
+# ---- lines, one rule at a time
+
+LINE_CASES = [
+    ("last line without newline", b"S\nF 3900", b"0\n0 0a0000\n"),
+    ("bad last line without newline", b"S\nx", b"0\nbad line 2\n"),
+    ("empty line", b"S\n\nS\n", b"0\nbad line 2\n"),
+    ("one newline", b"\n", b"bad line 1\n"),
+    ("carriage return", b"S\r\nS\n", b"bad line 1\n"),
+    ("upper hex", b"S\nF 3A0404\n", b"0\nbad line 2\n"),
+    ("odd digits", b"S\nF 300\n", b"0\nbad line 2\n"),
+    ("no digits", b"S\nF \n", b"0\nbad line 2\n"),
+    ("62 bytes", b"S\nF " + b"30" * 62 + b"\n", b"0\n4\n"),
+    ("63 bytes", b"S\nF " + b"30" * 63 + b"\n", b"0\nbad line 2\n"),
+    ("1 byte", b"S\nF 00\n", b"0\n3\n"),
+    ("NUL", b"S\nF 3900\x00\n", b"0\nbad line 2\n"),
+    ("bad line with a number of two digits", b"S\n" * 9 + b"?\n", b"0\n" * 9 + b"bad line 10\n"),
+    ("bad line with a number of six digits", b"P\n" * 123455 + b"?\nP\n", b"0\n" * 123455 + b"bad line 123456\n"),
+]
+
+
+def lines():
+    image = os.path.join(SAMPLES, "example", "tag.image")
+    return [message for name, script, expected in LINE_CASES for message in wrong(name, program.run([image], script), expected)]
+
+
+# ---- talking line by line
+
+def answer(process, seconds=5.0):
+    """One line of output, or what came of it in the time allowed."""
+    text, end = b"", time.monotonic() + seconds
+    while not text.endswith(b"\n") and select.select([process.stdout], [], [], max(0, end - time.monotonic()))[0]:
+        more = os.read(process.stdout.fileno(), 1)
+        if not more:
+            break
+        text += more
+    return text
+
+
+def talk(process, tag, n, line, halves):
+    """Line n is written, whole or in two halves, and its answer is read before anything else is written."""
+    cut = len(line) // 2 if halves else 0
+    if cut:
+        process.stdin.write(line[:cut])
+        if select.select([process.stdout], [], [], 0.02)[0]:
+            return ["line %d: answered before it ended" % n]
+    process.stdin.write(line[cut:] + b"\n")
+    got, wanted = answer(process), oracle.answer(tag, n, line) + b"\n"
+    return [] if got == wanted else ["line %d: %r, expected %r" % (n, got, wanted)]
+
+
+def interactive():
+    path = os.path.join(SAMPLES, "login_data_prot", "tag.image")
+    script = inputs.right_lines(random.Random(inputs.SEED), oracle.Tag(read(path)), 200)
+    tag, process, found = oracle.Tag(read(path)), program.start([path]), []
+    try:
+        for n, line in enumerate(script, 1):
+            found += talk(process, tag, n, line, n % 10 == 0)
+            if found:
+                break
+        process.stdin.close()
+        if not found and (answer(process) != b"" or process.wait(5) != 0):
+            found = ["after the last line: more output, or an exit status"]
+    except OSError as error:
+        found.append("the program went away: %s" % error)
+    finally:
+        process.kill()
+        process.wait()
+    return found
+
+
+# ---- bounded memory: 64 MB of address space for inputs of 100 MB
+
+HUGE = 100_000_000
+MEGABYTES = 64
+
+
+def filled(path, pattern):
+    """A file of the given bytes again and again, about 100 MB; how often."""
+    times = HUGE // len(pattern)
+    with open(path, "wb") as f:
+        for _ in range(times // 1000):
+            f.write(pattern * 1000)
+        f.write(pattern * (times % 1000))
+    return times
+
+
+def huge_image():
+    with tempfile.TemporaryDirectory() as folder:
+        path = write(read(SAMPLES, "example", "tag.image"), folder, "image")
+        os.truncate(path, HUGE)
+        return wrong("image of 100,000,000 bytes", program.run([path], LINES, megabytes=MEGABYTES), b"12\n")
+
+
+def huge_line():
+    with tempfile.TemporaryDirectory() as folder:
+        path = write(b"", folder, "script")
+        filled(path, b"F " + b"30" * 500_000)
+        with open(path, "rb") as f:
+            ended = program.run([os.path.join(SAMPLES, "example", "tag.image")], stdin=f, megabytes=MEGABYTES)
+    return wrong("line of 100 MB", ended, b"bad line 1\n")
+
+
+def huge_input():
+    with tempfile.TemporaryDirectory() as folder:
+        path = write(b"", folder, "script")
+        times = filled(path, b"S\nF " + b"30" * 62 + b"\n")
+        with open(path, "rb") as source, open(os.path.join(folder, "output"), "wb") as out:
+            ended = program.run([os.path.join(SAMPLES, "example", "tag.image")], stdin=source, seconds=300, megabytes=MEGABYTES, stdout=out)
+        return wrong("100 MB of lines", program.Ended(ended.status, read(folder, "output")), b"0\n4\n" * times)
+
+
+# ---- the list, and the count
+
+TESTS = [
+    ("the oracle against the standards", check_tools.oracle_standards),
+    ("the oracle against the rows of tools/cases.py", check_tools.oracle_rows),
+    ("samples are as tools/samples.py writes them", check_tools.samples_written),
+    ("sample images are as tools/make_image.py makes them", check_tools.samples_made),
+    ("images to settings and back", check_tools.round_trip),
+    ("wrong settings are refused with their line", check_tools.wrong_settings),
+    ("what tools/show_image.py says", check_tools.shown),
+    ("pictures are as tools/draw.py draws them", check_tools.pictures),
+    ("the login in docs/SCRIPTS.md", check_tools.guide),
+    ("help texts", check_tools.help_texts),
+    ("images from settings load", check_tools.made_images_load),
+    ("samples", samples),
+    ("samples in words", check_tools.words),
+    ("lines, one rule at a time", lines),
+    ("refused images and missing files", refused_images),
+    ("an image through a named pipe, in two halves", piped_image),
+    ("200 lines, each answered before the next is written", interactive),
+    ("memory: image of 100 MB", huge_image),
+    ("memory: line of 100 MB", huge_line),
+    ("memory: 100 MB of lines", huge_input),
+]
+
+
+class Count:
+    def __init__(self):
+        self.passed = self.failed = 0
+
+    def test(self, name, function, *words):
+        """Counts a test; False if the program hung in it, which ends the tests."""
+        begun, hangs = time.monotonic(), False
+        try:
+            found = function(*words)
+        except program.Hangs as error:
+            found, hangs = [str(error), "the tests behind this one are left out"], True
+        except Exception:
+            found = traceback.format_exc().splitlines()
+        for message in found[:10]:
+            print("    " + message)
+        print("%s: %s (%.1f s)" % ("FAILED" if found else "ok", name, time.monotonic() - begun), flush=True)
+        self.passed, self.failed = self.passed + (not found), self.failed + bool(found)
+        return not hangs
+
+    def closed(self):
+        print("%d passed, %d failed" % (self.passed, self.failed))
+        return 1 if self.failed else 0
+
+
+def everything():
+    count = Count()
+    if not shutil.which(program.PROGRAM[0]):
+        count.test("the program", lambda: ["%s is not there" % program.PROGRAM[0]])
+        return count.closed()
+    if all(count.test(name, function) for name, function in TESTS):
+        with multiprocessing.Pool(os.cpu_count()) as pool:
+            all(count.test(block_name(block), random_block, pool, block) for block in range(BLOCKS))
+    return count.closed()
+
+
+def kept(i, folder):
+    image, script = inputs.some_input(i)
+    os.makedirs(folder, exist_ok=True)
+    write(image, folder, "tag.image")
+    write(script, folder, "script.txt")
+    write(oracle.output(image, script), folder, "expected.txt")
+    return 0
+
+
+def main(words):
+    if len(words) == 3 and words[0] == "--input" and words[1].isdigit():
+        return kept(int(words[1]), words[2])
+    if words:
+        print(__doc__.strip())
+        return 0 if words in (["-h"], ["--help"]) else 1
+    return everything()
+
+
+if __name__ == "__main__":
+    sys.exit(main(sys.argv[1:]))
