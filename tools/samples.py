@@ -1,7 +1,8 @@
 #!/usr/bin/env python3
 """The sample scripts of the bench program, with the answers that document 01, 009 and FIPS 197 give.
 
-    tools/samples.py                    writes tag.image, script.txt, expected.txt and README.txt into each folder of samples/
+    tools/samples.py                    writes tag.image, script.txt, expected.txt and README.txt into each folder of samples/, and the image of
+                                        samples/example once more as crates/bench/data/ten.image, for the program's own test
     tools/samples.py --check            says whether they are there as they would be written; exit 1 if not
     tools/samples.py --proof KEY LINE   prints the second line of a login whose first line, F 1a.., is line LINE of a script; KEY in hex, key byte 0 first
 
@@ -17,6 +18,7 @@ from cases import RND_A, cbc, rotated
 from tagimage import shortened, stored
 
 FOLDER = os.path.join(tagimage.ROOT, "samples")
+BENCH_IMAGE = os.path.join("crates", "bench", "data", "ten.image")
 ENDED = "the session is ended"
 
 
@@ -232,7 +234,11 @@ def files(builder, title):
     """The files of a sample's folder, by name."""
     name = builder.__name__
     with open(os.path.join(FOLDER, name, "settings.txt"), encoding="utf-8") as f:
-        image, _ = tagimage.make(f.read())
+        text = f.read()
+    try:
+        image, _ = tagimage.make(text)
+    except tagimage.Wrong as error:
+        raise tagimage.Wrong("samples/%s/settings.txt: %s" % (name, error))
     script = Script(image)
     builder(script)
     return {
@@ -243,36 +249,69 @@ def files(builder, title):
     }
 
 
+def all_files():
+    """Every file with its bytes, by its path from the repository's folder."""
+    found = {}
+    for builder, title in SAMPLES:
+        for name, data in files(builder, title).items():
+            found[os.path.join("samples", builder.__name__, name)] = data
+    found[BENCH_IMAGE] = found[os.path.join("samples", "example", "tag.image")]
+    return found
+
+
 def written(check):
     """Writes the files, or only compares them; whether all were as they would be written."""
     right = True
-    for builder, title in SAMPLES:
-        for name, data in files(builder, title).items():
-            path = os.path.join(FOLDER, builder.__name__, name)
-            if stored(path) != data:
-                right = False
-                if check:
-                    print("samples/%s/%s: not as tools/samples.py writes it" % (builder.__name__, name))
-                else:
-                    with open(path, "wb") as f:
-                        f.write(data)
+    for name, data in all_files().items():
+        path = os.path.join(tagimage.ROOT, name)
+        if stored(path) != data:
+            right = False
+            if check:
+                print("%s: not as tools/samples.py writes it" % name)
+            else:
+                with open(path, "wb") as f:
+                    f.write(data)
     return right
+
+
+def failed(message):
+    print(message, file=sys.stderr)
+    return 1
+
+
+def written_or_said(check):
+    """The exit status of writing or comparing; a file that is missing or wrong is named."""
+    try:
+        return 0 if written(check) or not check else 1
+    except tagimage.Wrong as error:
+        return failed(str(error))
+    except UnicodeDecodeError as error:
+        return failed("settings that are not UTF-8: %s" % error)
+    except OSError as error:
+        return failed("%s: %s" % (error.filename, error.strerror))
+
+
+def printed_proof(key_text, line_text):
+    try:
+        key, line = tagimage.hex_bytes(key_text), tagimage.number(line_text)
+    except ValueError as error:
+        return failed("--proof: %s" % error)
+    if len(key) != 16 or line < 1:
+        return failed("--proof: a key has 16 bytes, and the first line is line 1")
+    print("F " + proof(key, challenge_of(line)).hex())
+    return 0
 
 
 def main(words):
     if words == ["--check"]:
-        return 0 if written(True) else 1
+        return written_or_said(True)
     if len(words) == 3 and words[0] == "--proof":
-        key = tagimage.hex_bytes(words[1])
-        if len(key) == 16 and words[2].isdigit():
-            print("F " + proof(key, challenge_of(int(words[2]))).hex())
-            return 0
+        return printed_proof(words[1], words[2])
     if words:
         print(__doc__.strip())
         return 0 if words in (["-h"], ["--help"]) else 1
-    written(False)
-    return 0
+    return written_or_said(False)
 
 
 if __name__ == "__main__":
-    sys.exit(main(sys.argv[1:]))
+    tagimage.start(main)

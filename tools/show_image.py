@@ -160,8 +160,7 @@ def main(words):
         print(__doc__.strip(), file=sys.stderr)
         return 1
     try:
-        with open(names[0], "rb") as f:
-            image, length = f.read(tagimage.SIZE), f.seek(0, 2)
+        image, length = tagimage.read_image(names[0])
     except OSError as error:
         print("%s: a tag answers 12: it cannot be read: %s" % (names[0], error.strerror))
         return 1

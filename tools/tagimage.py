@@ -1,12 +1,14 @@
 """Image files of the tag: where things stand in them, and settings that a person can read.
 
-make_image.py, show_image.py and the tests share this file. Places of sections and pages come from crates/layout/stdout, which the proved program
-`layout` prints; bits inside a page are those of docs/DATASHEET.md, sections 2 to 8. Python 3, no library.
+make_image.py, show_image.py and the tests share this file. Places of sections and pages come from crates/layout/stdout, which the program `layout`
+prints: the numbers come from the proved functions of `image` and `memory`; that each stands beside the right name is not proved, and comes from reading.
+Bits inside a page are those of docs/DATASHEET.md, sections 2 to 8. Python 3, no library.
 """
 
 import collections
 import os
 import re
+import stat
 import sys
 
 ROOT = os.path.dirname(os.path.dirname(os.path.abspath(__file__)))
@@ -76,11 +78,26 @@ def right_check_bytes(image):
 
 # ---- what a tag refuses
 
+# the length of a pipe or device that has more bytes than an image: they are not counted, since they need not end
+ENDLESS = float("inf")
+
+
+def read_image(path):
+    """The first bytes of a file, at most as many as an image has, and the file's length."""
+    with open(path, "rb") as f:
+        data, status = f.read(SIZE + 1), os.fstat(f.fileno())
+    length = len(data)
+    if length > SIZE:
+        length = max(length, status.st_size) if stat.S_ISREG(status.st_mode) else ENDLESS
+    return data[:SIZE], length
+
+
 def refusals(image, length=None):
     """Why a tag answers 12 to loading these bytes; nothing if it loads them (document 01, "Image file"). A longer file may be given by its start and length."""
     length = len(image) if length is None else length
     if length != SIZE:
-        return ["the file has %s bytes, an image has %d" % (format(length, ","), SIZE)]
+        words = "more than %d" % SIZE if length == ENDLESS else format(length, ",")
+        return ["the file has %s bytes, an image has %d" % (words, SIZE)]
     found = []
     for name, section in SECTIONS.items():
         if image[section.at] != section.count:

@@ -28,6 +28,7 @@ REFUSED = {
     "11": "refused: too many failed logins",
     "12": "the image is refused, or cannot be opened",
 }
+CONTROLS = {0x09: "\\t", 0x0D: "\\r", 0x5C: "\\\\"}
 KEYS = {0: ("DataProtKey", "AUTHENTICATED"), 1: ("UIDRetrKey", "TRACEABLE"), 2: ("OriginalityKey", "ACTIVE")}
 
 
@@ -47,7 +48,8 @@ class Words:
         if answer is None:
             return "not played: the program has stopped"
         if answer.startswith("bad line"):
-            return "not a line of a script: the program stops"
+            ending = ". It ends with a carriage return: save the file with plain line ends" if line.endswith("\\r") and not line.endswith("\\\\r") else ""
+            return "not a line of a script: the program stops" + ending
         number, _, data = answer.partition(" ")
         if line in ("P", "S"):
             return "power off and on: the tag is WAITING" if line == "P" else "the tag is selected: ACTIVE"
@@ -94,6 +96,23 @@ def played(image, script):
     return done.stdout.decode("ascii", "replace")
 
 
+def read(path):
+    try:
+        with open(path, "rb") as f:
+            return f.read()
+    except OSError as error:
+        sys.exit("%s cannot be read: %s" % (path, error.strerror))
+
+
+def line_texts(script):
+    """The lines as the bench program sees them: only a newline ends one. A byte that is no printable ASCII stands as text, a carriage return as \\r, so a
+    backslash stands twice."""
+    lines = script.split(b"\n")
+    if lines[-1] == b"":
+        lines.pop()
+    return ["".join(chr(b) if 0x20 <= b < 0x7F else CONTROLS.get(b, "\\x%02x" % b) for b in line) for line in lines]
+
+
 def shown(lines, answers):
     words = Words()
     for n, line in enumerate(lines):
@@ -102,25 +121,22 @@ def shown(lines, answers):
 
 
 def play(image, script, expected=None):
-    with open(script, "rb") as f:
-        text = f.read()
+    text = read(script)
     output = played(image, text)
     if output == "12\n":
         print("12: " + REFUSED["12"])
     else:
-        shown(text.decode("ascii", "replace").splitlines(), output.splitlines())
+        shown(line_texts(text), output.splitlines())
     if expected is None:
         return 0
-    with open(expected, encoding="ascii") as f:
-        same = f.read() == output
+    same = read(expected).decode("ascii", "replace") == output
     print("Every answer is the expected one." if same else "The answers differ from %s." % expected)
     return 0 if same else 1
 
 
 def main(words):
     if len(words) == 1 and os.path.isdir(words[0]):
-        with open(os.path.join(words[0], "README.txt"), encoding="utf-8") as f:
-            print(f.readline())
+        print(read(os.path.join(words[0], "README.txt")).decode("utf-8", "replace").split("\n")[0] + "\n")
         return play(*[os.path.join(words[0], name) for name in ("tag.image", "script.txt", "expected.txt")])
     if len(words) == 2:
         return play(*words)

@@ -1,7 +1,8 @@
 #!/usr/bin/env python3
 """Holds the bench program against the samples, against oracle.py, and against the rules for lines and image files.
 
-    host/bench/check.py                    all of it; the last line is 'N passed, M failed'
+    host/bench/check.py                    all of it, with 10,000 random inputs; the last line is 'N passed, M failed'
+    host/bench/check.py --inputs N         with N random inputs
     host/bench/check.py --input N FOLDER   writes random input N and what it must print into FOLDER, to look at
 
 Each test is a function that gives a list of what is wrong. The program is the one of program.py.
@@ -18,12 +19,13 @@ import threading
 import time
 import traceback
 
+import check_streams
 import check_tools
 import inputs
 import oracle
 import program
 
-INPUTS = int(os.environ.get("INPUTS", "10000"))
+INPUTS = 10_000
 BLOCKS = 10
 SAMPLES = os.path.join(program.ROOT, "samples")
 
@@ -78,16 +80,22 @@ def stretch(numbers):
         return [message for i in numbers for message in played(i, folder)]
 
 
-def block_name(block):
-    size = INPUTS // BLOCKS
-    return "random inputs %d to %d, as oracle.py plays them" % (block * size, block * size + size - 1)
-
-
-def random_block(pool, block):
-    size = INPUTS // BLOCKS
-    first = block * size
-    parts = [range(n, min(n + 25, first + size)) for n in range(first, first + size, 25)]
+def random_block(pool, numbers):
+    parts = [numbers[n:n + 25] for n in range(0, len(numbers), 25)]
     return sum(pool.map(stretch, parts, chunksize=1), [])
+
+
+def random_inputs(count, number):
+    """Blocks of inputs 0 to number - 1; how many inputs were played."""
+    played_inputs = 0
+    with multiprocessing.Pool(os.cpu_count()) as pool:
+        for block in range(BLOCKS):
+            numbers = range(number * block // BLOCKS, number * (block + 1) // BLOCKS)
+            name = "random inputs %d to %d, as oracle.py plays them" % (numbers.start, numbers.stop - 1)
+            if numbers and not count.test(name, random_block, pool, numbers):
+                break
+            played_inputs += len(numbers)
+    return played_inputs
 
 
 # ---- images that are refused, and files that are none
@@ -253,6 +261,9 @@ TESTS = [
     ("pictures are as tools/draw.py draws them", check_tools.pictures),
     ("the login in docs/SCRIPTS.md", check_tools.guide),
     ("help texts", check_tools.help_texts),
+    ("errors of the scripts, in one line", check_tools.one_line_errors),
+    ("images through a pipe, shown", check_tools.shown_from_pipe),
+    ("script lines as tools/words.py shows them", check_tools.words_of_lines),
     ("images from settings load", check_tools.made_images_load),
     ("samples", samples),
     ("samples in words", check_tools.words),
@@ -260,6 +271,7 @@ TESTS = [
     ("refused images and missing files", refused_images),
     ("an image through a named pipe, in two halves", piped_image),
     ("200 lines, each answered before the next is written", interactive),
+    *check_streams.TESTS,
     ("memory: image of 100 MB", huge_image),
     ("memory: line of 100 MB", huge_line),
     ("memory: 100 MB of lines", huge_input),
@@ -290,14 +302,15 @@ class Count:
         return 1 if self.failed else 0
 
 
-def everything():
+def everything(number, least):
+    """All tests, with a number of random inputs; fewer than the least is a failure."""
     count = Count()
     if not shutil.which(program.PROGRAM[0]):
         count.test("the program", lambda: ["%s is not there" % program.PROGRAM[0]])
         return count.closed()
     if all(count.test(name, function) for name, function in TESTS):
-        with multiprocessing.Pool(os.cpu_count()) as pool:
-            all(count.test(block_name(block), random_block, pool, block) for block in range(BLOCKS))
+        done = random_inputs(count, number)
+        count.test("%d random inputs played" % done, lambda: [] if done >= least else ["fewer than %d" % least])
     return count.closed()
 
 
@@ -313,10 +326,12 @@ def kept(i, folder):
 def main(words):
     if len(words) == 3 and words[0] == "--input" and words[1].isdigit():
         return kept(int(words[1]), words[2])
+    if len(words) == 2 and words[0] == "--inputs" and words[1].isdecimal():
+        return everything(int(words[1]), int(words[1]))
     if words:
         print(__doc__.strip())
         return 0 if words in (["-h"], ["--help"]) else 1
-    return everything()
+    return everything(INPUTS, INPUTS)
 
 
 if __name__ == "__main__":

@@ -286,3 +286,63 @@ def keys_hidden():
     key, turned = tagimage.spaced(samples.DATA_PROT_KEY), tagimage.spaced(samples.DATA_PROT_KEY[::-1])
     hidden, with_keys = tool("show_image.py", path)[1], tool("show_image.py", path, "--keys")[1]
     return unless(key in with_keys and key[:23] not in hidden and turned[:11] not in hidden, "keys show without --keys, or not with it")
+
+
+def shown_from_pipe():
+    """The same words as for a file; of what is too long, that it is, even where it has no end."""
+    base, found = tagimage.stored(EXAMPLE), []
+    longer = "the file has more than 271 bytes"
+    for data, status, words in ((base, 0, "a tag loads it"), (base[:270], 1, "the file has 270 bytes"), (base + b"\x00", 1, longer), (base * 20, 1, longer)):
+        reading, writing = os.pipe()
+        os.write(writing, data)
+        os.close(writing)
+        done = subprocess.run([sys.executable, os.path.join(TOOLS, "show_image.py"), "/dev/stdin"], stdin=reading, stdout=subprocess.PIPE, check=False)
+        os.close(reading)
+        found += unless(done.returncode == status and words.encode() in done.stdout, "%d bytes: exit %d, %r" % (len(data), done.returncode, done.stdout[:100]))
+    status, text = tool("show_image.py", "/dev/zero")
+    return found + unless(status == 1 and "more than 271 bytes" in text, "/dev/zero: " + text[:100])
+
+
+# ---- errors, and lines in words
+
+EXAMPLE = os.path.join(samples.FOLDER, "example", "tag.image")
+
+
+def one_line_errors():
+    found = []
+    with tempfile.TemporaryDirectory() as folder:
+        gone = os.path.join(folder, "gone")
+        for command in (["words.py", EXAMPLE, gone], ["words.py", EXAMPLE, folder], ["words.py", folder], ["show_image.py", gone],
+                        ["make_image.py", gone, gone], ["samples.py", "--proof", "zz", "2"], ["samples.py", "--proof", "00" * 15, "2"],
+                        ["samples.py", "--proof", "00" * 16, "0"], ["samples.py", "--proof", "00" * 16, "x"]):
+            status, text = tool(*command)
+            found += unless(status == 1 and text.count("\n") == 1 and "Traceback" not in text, "%s: exit %d, %s" % (" ".join(command), status, text[-200:]))
+    return found
+
+
+# a script, and the start of each line that is shown for it
+SHOWN_LINES = [
+    (b"S\nF 3900\n", ["S ", "F 3900 "]),
+    (b"S\nF 3900", ["S ", "F 3900 "]),
+    (b"S\r\nF 3900\r\n", ["S\\r ", "F 3900\\r "]),
+    (b"S\nF 39\x0c00\n", ["S ", "F 39\\x0c00 "]),
+    (b"S\n\nS\n", ["S ", " ", "S "]),
+    (b"S\n\xe2\x80\xa8\n", ["S ", "\\xe2\\x80\\xa8 "]),
+    (b"", []),
+]
+
+
+def words_of_lines():
+    """A line ends at a newline alone, and what cannot be printed stands as text."""
+    found = []
+    with tempfile.TemporaryDirectory() as folder:
+        path = os.path.join(folder, "script")
+        for script, starts in SHOWN_LINES:
+            with open(path, "wb") as f:
+                f.write(script)
+            status, text = tool("words.py", EXAMPLE, path)
+            lines = text.split("\n")[:-1]
+            right = status == 0 and len(lines) == len(starts) and all(line.startswith(start) for line, start in zip(lines, starts))
+            right = right and ("carriage return" in text) == (b"\r" in script)
+            found += unless(right, "%r: %s" % (script, text))
+    return found

@@ -424,10 +424,13 @@ def output(image, script):
 
 
 def lines_from(fd):
-    """The same lines from a file descriptor; of a line that is too long, only its start."""
+    """The same lines from a file descriptor; of a line that is too long, only its start. A read that fails ends them, and what was left is no line."""
     left = b""
     while True:
-        more = os.read(fd, 65536)
+        try:
+            more = os.read(fd, 65536)
+        except OSError:
+            return
         if not more:
             break
         *whole, left = (left + more).split(b"\n")
@@ -439,15 +442,26 @@ def lines_from(fd):
         yield left
 
 
+def sent(text):
+    """Whether a text was written; behind a write that fails nothing more may be written."""
+    while text:
+        try:
+            text = text[os.write(1, text):]
+        except OSError:
+            return False
+    return True
+
+
 def main(words):
     try:
         with open(words[0], "rb") as f:
             tag = Tag(f.read(272))
     except (OSError, IndexError, ValueError, Refused):
-        os.write(1, b"12\n")
+        sent(b"12\n")
         return
     for text in printed(tag, lines_from(0)):
-        os.write(1, text)
+        if not sent(text):
+            return
 
 
 if __name__ == "__main__":

@@ -1,8 +1,8 @@
 // The inverse cipher, FIPS 197 section 5.3, over a key schedule that is given.
-use super::state;
-use super::state::Columns;
+use columns::state;
+use columns::state::Columns;
 ghost use mathlib.Core.Path.{_≡_};
-ghost use Rattle.aes.specs.Words.{columnsOf};
+ghost use Rattle.columns.specs.Words.{columnsOf};
 ghost use Prim.Native.Nat.{_<_};
 ghost use Rattle.fips197.specs.SBox.{invSBoxTable};
 ghost use Rattle.fips197.specs.Cipher.{invRound, invLastRound, invCipher};

@@ -5,9 +5,9 @@ mod inverse_rounds;
 mod rounds;
 mod sbox;
 mod schedule;
-mod state;
-mod words;
 
+use columns::state;
+use columns::words;
 ghost use mathlib.Core.Path.{_≡_};
 ghost use Rattle.fips197.specs.KeyExpansion.{keyExpansion};
 ghost use Rattle.fips197.specs.Cipher.{encipher, decipher};

@@ -1,13 +1,13 @@
 // The key expansion, FIPS 197 section 5.2, word by word.
-use super::words;
-use super::words::Word;
+use columns::words;
+use columns::words::Word;
 ghost use mathlib.Core.Path.{_≡_};
 ghost use mathlib.Core.List.{[], _∷_};
 ghost use Prim.Native.Nat.{_≤_, _<_};
 ghost use lib.ListN.{take};
 ghost use Rattle.fips197.specs.SBox.{sBoxTable};
 ghost use Rattle.fips197.specs.KeyExpansion.{rotWord, xorWord, powerOfX, nextWord, keyExpansion};
-ghost use Rattle.aes.specs.Words.{bytesOf, subWordBy};
+ghost use Rattle.columns.specs.Words.{bytesOf, subWordBy};
 
 // The powers of x that the round constants start with.
 const POWERS_OF_X: [u8; 10] = [1, 2, 4, 8, 16, 32, 64, 128, 27, 54];

@@ -1,115 +1,90 @@
 // Standard input, in pieces as they come: what is read at once is played before the next reading, and its answers are written.
-use crate::stand;
-use crate::stand::Stand;
+use crate::progress;
+use crate::progress::Progress;
 use libc::STDIN_FILENO;
 use model::Tag;
+use script::lines;
 ghost use mathlib.Core.Path.{_≡_};
 ghost use Prim.Native.Nat.{_≤_, _<_};
 ghost use lib.ListN.{length};
 
-// The place of the first newline from i on, or the end.
-fn newline_from(chunk: &[u8], i: usize) -> usize
-    requires { ⌜ i ≤ length (now chunk) ⌝ }
-    ensures { λ r. ⌜ i ≤ r ⌝ }
-    ensures { λ r. ⌜ r ≤ length (now (chunk .entry)) ⌝ }
-{
-    let mut e = i;
-    while e < chunk.len() {
-        if chunk[e] == b'\n' {
-            return e;
-        }
-        e += 1;
-    }
-    e
-}
-
-// More bytes of a line that is not yet whole, up to 127; returns how many are held.
-fn keep(line: &mut [u8], held: usize, piece: &[u8]) -> usize
-    requires { ⌜ held ≤ 127 ⌝ }
-    requires { ⌜ length (now line) ≡ 128 ⌝ }
-    ensures { λ r. ⌜ r ≤ 127 ⌝ }
-{
-    let free = 127 - held;
-    if piece.len() < free {
-        octets::lay(line, held, piece);
-        return held + piece.len();
-    }
-    octets::lay(line, held, &piece[..free]);
-    127
-}
-
 // The end of a line: it is played where it lies, or with what was held of it.
-fn whole(s: Stand, store: &mut [u8], line: &mut [u8], piece: &[u8], out: &mut [u8]) -> Stand
-    requires { ⌜ s .at ≤ 65536 ⌝ }
-    requires { ⌜ s .held ≤ 127 ⌝ }
+fn complete_line(
+    p: Progress,
+    store: &mut [u8],
+    line: &mut [u8],
+    piece: &[u8],
+    out: &mut [u8],
+) -> Progress
+    requires { ⌜ p .at ≤ 65536 ⌝ }
+    requires { ⌜ p .held ≤ 127 ⌝ }
     requires { ⌜ length (now line) ≡ 128 ⌝ }
     requires { ⌜ length (now out) ≡ 65536 ⌝ }
     ensures { λ r. ⌜ r .at ≤ 65536 ⌝ }
     ensures { λ r. ⌜ r .held ≤ 127 ⌝ }
 {
-    if s.held == 0 {
-        return stand::end_line(s, store, piece, out);
+    if p.held == 0 {
+        return progress::play_line(p, store, piece, out);
     }
-    let held = keep(line, s.held, piece);
-    stand::end_line(s, store, &line[..held], out)
+    let held = lines::hold(line, p.held, piece);
+    progress::play_line(p, store, &line[..held], out)
 }
 
-// The start or the middle of a line is held; a line that is too long to be a good one is played at once, as a bad one.
-fn part(s: Stand, store: &mut [u8], line: &mut [u8], piece: &[u8], out: &mut [u8]) -> Stand
-    requires { ⌜ s .at ≤ 65536 ⌝ }
-    requires { ⌜ s .held ≤ 127 ⌝ }
+// The start or the middle of a line is held. A line of 127 bytes is too long to be a good one, and is played at once, as a bad one.
+fn begun_line(
+    p: Progress,
+    store: &mut [u8],
+    line: &mut [u8],
+    piece: &[u8],
+    out: &mut [u8],
+) -> Progress
+    requires { ⌜ p .at ≤ 65536 ⌝ }
+    requires { ⌜ p .held ≤ 127 ⌝ }
     requires { ⌜ length (now line) ≡ 128 ⌝ }
     requires { ⌜ length (now out) ≡ 65536 ⌝ }
     ensures { λ r. ⌜ r .at ≤ 65536 ⌝ }
     ensures { λ r. ⌜ r .held ≤ 127 ⌝ }
 {
-    let held = keep(line, s.held, piece);
+    let held = lines::hold(line, p.held, piece);
     if held == 127 {
-        return stand::end_line(s, store, &line[..held], out);
+        return progress::play_line(p, store, &line[..held], out);
     }
-    let tag = s.tag;
-    Stand {
-        tag,
-        count: s.count,
-        held,
-        at: s.at,
-        on: s.on,
-    }
+    progress::moved(p, held, p.at, p.on)
 }
 
-// A line of what was read, or the last piece of it.
-fn piece(
-    s: Stand,
+// The bytes from one place of what was read to the newline at another, or to its end.
+fn play_piece(
+    p: Progress,
     store: &mut [u8],
     line: &mut [u8],
     chunk: &[u8],
     from: usize,
     e: usize,
     out: &mut [u8],
-) -> Stand
+) -> Progress
     requires { ⌜ from ≤ e ⌝ }
     requires { ⌜ e ≤ length (now chunk) ⌝ }
-    requires { ⌜ s .at ≤ 65536 ⌝ }
-    requires { ⌜ s .held ≤ 127 ⌝ }
+    requires { ⌜ p .at ≤ 65536 ⌝ }
+    requires { ⌜ p .held ≤ 127 ⌝ }
     requires { ⌜ length (now line) ≡ 128 ⌝ }
     requires { ⌜ length (now out) ≡ 65536 ⌝ }
     ensures { λ r. ⌜ r .at ≤ 65536 ⌝ }
     ensures { λ r. ⌜ r .held ≤ 127 ⌝ }
 {
     if e < chunk.len() {
-        return whole(s, store, line, &chunk[from..e], out);
+        return complete_line(p, store, line, &chunk[from..e], out);
     }
-    part(s, store, line, &chunk[from..e], out)
+    begun_line(p, store, line, &chunk[from..e], out)
 }
 
-// What was read, line by line, until a bad line ends it.
+// What was read, line by line, until the script ends.
 fn play_chunk(
-    first: Stand,
+    first: Progress,
     store: &mut [u8],
     line: &mut [u8],
     chunk: &[u8],
     out: &mut [u8],
-) -> Stand
+) -> Progress
     requires { ⌜ first .at ≤ 65536 ⌝ }
     requires { ⌜ first .held ≤ 127 ⌝ }
     requires { ⌜ length (now line) ≡ 128 ⌝ }
@@ -118,38 +93,44 @@ fn play_chunk(
     ensures { λ r. ⌜ r .at ≤ 65536 ⌝ }
     ensures { λ r. ⌜ r .held ≤ 127 ⌝ }
 {
-    let mut s = first;
+    let mut p = first;
     let mut from = 0;
     while from < chunk.len() {
-        let e = newline_from(chunk, from);
-        let next = piece(s, store, line, chunk, from, e, out);
-        s = next;
-        if !s.on {
-            return s;
+        let e = lines::newline_from(chunk, from);
+        let next = play_piece(p, store, line, chunk, from, e, out);
+        p = next;
+        if !p.on {
+            return p;
         }
         from = e + 1;
     }
-    s
+    p
 }
 
 // The input has ended: bytes behind the last newline are a line too.
-fn ended(s: Stand, store: &mut [u8], line: &[u8], out: &mut [u8])
-    requires { ⌜ s .at ≤ 65536 ⌝ }
-    requires { ⌜ s .held ≤ 127 ⌝ }
+fn play_last(p: Progress, store: &mut [u8], line: &[u8], out: &mut [u8])
+    requires { ⌜ p .at ≤ 65536 ⌝ }
+    requires { ⌜ p .held ≤ 127 ⌝ }
     requires { ⌜ length (now line) ≡ 128 ⌝ }
     requires { ⌜ length (now out) ≡ 65536 ⌝ }
 {
-    if s.held == 0 {
+    if p.held == 0 {
         return;
     }
-    let last = stand::end_line(s, store, &line[..s.held], out);
-    stand::written(last, out);
+    let last = progress::play_line(p, store, &line[..p.held], out);
+    progress::written(last, out);
 }
 
-// One reading, and the answers to the lines that it completes.
-fn read_turn(s: Stand, store: &mut [u8], line: &mut [u8], chunk: &mut [u8], out: &mut [u8]) -> Stand
-    requires { ⌜ s .at ≡ 0 ⌝ }
-    requires { ⌜ s .held ≤ 127 ⌝ }
+// One reading, and the answers to the lines that it completes. A reading that fails ends the script; what is held of a line is not played then.
+fn read_turn(
+    p: Progress,
+    store: &mut [u8],
+    line: &mut [u8],
+    chunk: &mut [u8],
+    out: &mut [u8],
+) -> Progress
+    requires { ⌜ p .at ≡ 0 ⌝ }
+    requires { ⌜ p .held ≤ 127 ⌝ }
     requires { ⌜ length (now line) ≡ 128 ⌝ }
     requires { ⌜ length (now chunk) ≡ 65536 ⌝ }
     requires { ⌜ length (now out) ≡ 65536 ⌝ }
@@ -157,13 +138,16 @@ fn read_turn(s: Stand, store: &mut [u8], line: &mut [u8], chunk: &mut [u8], out:
     ensures { λ r. ⌜ r .held ≤ 127 ⌝ }
 {
     let got = libc::read(STDIN_FILENO, chunk);
+    if got < 0 {
+        return progress::moved(p, 0, 0, false);
+    }
     let n = io::count(got, chunk);
     if n == 0 {
-        ended(s, store, line, out);
-        return stand::stopped(s);
+        play_last(p, store, line, out);
+        return progress::moved(p, 0, 0, false);
     }
-    let next = play_chunk(s, store, line, &chunk[..n], out);
-    stand::written(next, out)
+    let next = play_chunk(p, store, line, &chunk[..n], out);
+    progress::written(next, out)
 }
 
 // A proved loop has to end, and nothing says that an input does. So it counts its turns down, from a number that no run uses up.
@@ -171,11 +155,11 @@ pub fn play_input(tag: Tag, store: &mut [u8]) {
     let mut chunk = io::large_buffer();
     let mut out = io::large_buffer();
     let mut line = [0u8; 128];
-    let mut s = stand::beginning(tag);
+    let mut p = progress::beginning(tag);
     let mut turns = u64::MAX;
-    while turns > 0 && s.on {
-        let next = read_turn(s, store, &mut line, &mut chunk, &mut out);
-        s = next;
+    while turns > 0 && p.on {
+        let next = read_turn(p, store, &mut line, &mut chunk, &mut out);
+        p = next;
         turns -= 1;
     }
 }

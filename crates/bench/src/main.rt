@@ -1,7 +1,7 @@
 // The bench program: an image by name, lines from standard input, and an answer for each (document 01, "Image file and bench program").
 mod file;
 mod input;
-mod stand;
+mod progress;
 
 use libc::STDOUT_FILENO;
 

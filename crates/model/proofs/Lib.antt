@@ -15,6 +15,7 @@ pub mod Hidden
 pub mod ProofExact
 pub mod CallClaims
 pub mod Stages
+pub mod Ruling
 pub mod Cases
 pub mod Struck
 pub mod Samples

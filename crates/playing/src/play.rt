@@ -7,10 +7,10 @@ use crate::answer;
 use crate::digits;
 use crate::file;
 use crate::parts;
+use events::Answer;
 use libc::STDOUT_FILENO;
 use model::Reply;
 use model::Tag;
-use tag::Answer;
 ghost use Prim.Native.Nat.{_≤_};
 ghost use lib.ListN.{length};
 

@@ -1,7 +1,8 @@
 -- Demands 1 and 3 of the calls that a program makes, by their `ensures` alone.
 --
 --   CallsForget       demand 3: damage is forgotten, in what the calls hand back
---   LoadsRefused      demand 1 of `load`
+--   LoadsRefused, SavesRefused
+--                     demand 1 of `load` and of `save`
 --   EventsKeep        demand 1 of `power` and `select`
 --   FramesNumbered, FramesRefused, FramesKeep
 --                     demand 1 of `frame`: its numbers; what a refusal leaves; 1 and 10 change nothing
@@ -26,13 +27,13 @@ use Rattle.model.specs.Frame.{silence, Outcome, frame, replyOf, laidOver}
 use Rattle.model.specs.Image.{load}
 use Rattle.model.specs.Demand1.{Ended, Unchanged, Event}
 use Rattle.model.specs.Calls.{Box, Call, Bytes, Fit, step, storedOf, tagMachine, loadedBox}
-use Rattle.model.proofs.Demand1.{number-in-table, refusal-ends, keeps-all, power-keeps-stored, select-keeps-stored, load-refused}
+use Rattle.model.proofs.Demand1.{number-in-table, refusal-ends, keeps-all, power-keeps-stored, select-keeps-stored, load-refused, save-refused}
 use Rattle.model.proofs.Image.{load-done}
 use Rattle.model.proofs.Claims.{damage-forgotten}
-use Rattle.tag.specs.declared.Answer.{Answer}
+use Rattle.events.specs.declared.Answer.{Answer}
 use Rattle.tag.proofs.power.Reads as power-call
 use Rattle.tag.proofs.select.Reads as select-call
-use Rattle.runs.proofs.Made.{Slice, Loading, boxOf, FrameMet, Made, powered, selected, got, InTurn, logOf, last, callsOf}
+use Rattle.runs.proofs.Made.{Slice, Loading, boxOf, Saving, FrameMet, Made, powered, selected, got, InTurn, logOf, last, callsOf}
 use Rattle.runs.proofs.Steps.{loaded-box, outcomeOf, outcome-frame, got-step, log-run, last-run}
 
 -- ---- demand 3
@@ -102,6 +103,15 @@ pub loads-refused : LoadsRefused
 loads-refused l h =
     let d = load-refused (now (l .file)) (now (l .store)) (λ z. h (l .met .0 ∙ z)) in
     (rw (l .met .0) (d .0), l .met .1 .0 ∙ d .1, l .met .1 .1 ∙ d .2)
+
+-- a saving that is refused is answered 10 and leaves the buffer; the store and the record are only lent to it
+abbrev pub SavesRefused : Type 0
+SavesRefused = (v : Saving) → (v .number ≡ 0 → ⊥) → (v .number ≡ 10) × (now (v .file′) ≡ now (v .file))
+
+pub saves-refused : SavesRefused
+saves-refused v h =
+    let d = save-refused (v .tag) (now (v .store)) (now (v .file)) (λ z. h (v .met .0 ∙ z)) in
+    (v .met .0 ∙ d .0, v .met .1 ∙ d .1)
 
 -- `power` and `select`: 0 with silence and all that is stored kept, whatever the record and the store beside it
 abbrev pub EventsKeep : Type 0

@@ -1,6 +1,7 @@
 -- Calls of `tag` as a program makes them, one after another, and what it gets.
 --
 --   Loading        a call of `load`: what it was given, what came back, and that this meets the `ensures` of `load`
+--   Saving         the same for a call of `save`
 --   Made           the same for a call of `power`, `select` or `frame`
 --   callOf m       the call, as demand 3's machine is given it
 --   got b m        what came back: number, reply, and the record and store that are left
@@ -21,11 +22,12 @@ use Rattle.model.specs.declared.Tag.{Tag}
 use Rattle.model.specs.Frame.{Said}
 use Rattle.model.specs.Calls.{Box, Call, power, select, frame, tagMachine}
 use Rattle.image.specs.declared.Loading as loading
-use Rattle.tag.specs.declared.Answer.{Answer}
+use Rattle.events.specs.declared.Answer.{Answer}
 use Rattle.tag.proofs.power.Reads as power-call
 use Rattle.tag.proofs.select.Reads as select-call
 use Rattle.tag.proofs.frame.Reads as frame-call
 use Rattle.tag.proofs.load.Reads as load-call
+use Rattle.tag.proofs.save.Reads as save-call
 use Rattle.runs.specs.Heard.{heard}
 
 abbrev pub Slice : Type 0
@@ -42,6 +44,16 @@ pub record Loading : Type 0 where
 -- the record and the store that a loading leaves
 abbrev pub boxOf : Loading → Box
 boxOf l = record { tag = l .result .tag; store = now (l .store′) }
+
+-- a call of `save`; the number is its result
+pub record Saving : Type 0 where
+  pub κs : Lfts 2
+  pub tag : Tag
+  pub store : Slice
+  pub file : Slice
+  pub number : ℕ
+  pub file′ : Slice
+  pub met : save-call.Learnt κs (tag, (store, (file, tt))) number (tag, (store, (file′, tt)))
 
 -- the `ensures` of `frame`, of its arguments, its result and the two buffers at exit
 abbrev pub FrameMet : Lfts 4 → Tag → (store f random reply : Slice) → Answer → (store′ reply′ : Slice) → Type 0

@@ -4,24 +4,29 @@
 --   got-step      a call gives the step of demand 3's machine
 --   log-run       the log of calls made in turn is the machine's
 --   last-run      and so is what is left in the end
---   can-be-made   there is a result that meets the contract, for every call at every record and store
+--   step-room     a frame's step is the same for every well-sized reply buffer
+--   can-be-made, calls-can-be-made, load-can-be-made
+--                 there is a result that meets the contract, for every call at every record and store, for every list of calls in turn, and for a loading
 --
 -- Assumes nothing.
 use mathlib.Core.Path.{_≡_, refl, sym, ap, subst, _∙_}
 use mathlib.Core.List.{List, [], _∷_}
-use Prim.Native.Nat.{ℕ}
+use Prim.Native.Nat.{ℕ, _≤_}
+use borrow.Author.Tests.{le-ltb}
 use lib.ListN.{length, replicate, length-replicate}
 use contract.Lifetimes.{Lfts}
 use denote.Ref.{now}
 use Rattle.forget.specs.Machine.{Given, Entry, entry, log, end}
 use Rattle.model.specs.declared.Tag.{Tag}
 use Rattle.model.specs.declared.Reply.{Reply}
-use Rattle.model.specs.Frame.{Said, Outcome, frame, replyOf, laidOver}
+use Rattle.model.specs.Map.{mf0aes20, replySize}
+use Rattle.model.specs.Frame.{misfit, frameNumber, decide, Said, Outcome, frame, replyOf, laidOver}
+use Rattle.model.specs.Image.{load}
 use Rattle.model.specs.Record as event
 use Rattle.model.specs.declared.Reply.the-variants.{Silence}
 use Rattle.model.specs.Calls as call
 use Rattle.model.specs.Calls.{Box, Call, power, select, step, tagMachine, loadedBox}
-use Rattle.tag.specs.declared.Answer.{Answer}
+use Rattle.events.specs.declared.Answer.{Answer}
 use Rattle.runs.specs.Heard.{heard}
 use Rattle.runs.proofs.Heard.{said-fits, heard-said}
 use Rattle.runs.proofs.Made.{Slice, Loading, boxOf, Made, powered, selected, framed, callOf, got, Handed, InTurn, logOf, last, callsOf}
@@ -86,3 +91,32 @@ can-be-made κs b (call.frame f random room) =
       (refl, refl),
       ap (λ (n : ℕ). call.frame f random n) (length-replicate room 0),
     )
+
+pub calls-can-be-made : (κs : Lfts 4) (b : Box) (cs : List Call) → (ms : List Made) × InTurn b ms × (callsOf ms ≡ cs)
+calls-can-be-made κs b [] = ([], tt, refl)
+calls-can-be-made κs b (c ∷ cs) =
+    let one = can-be-made κs b c in
+    let rest = calls-can-be-made κs (got b (one .0) .next) cs in
+    (one .0 ∷ rest .0, (one .1, rest .1), λ i. one .2 i ∷ rest .2 i)
+
+pub load-can-be-made : (κs : Lfts 2) (i s : List ℕ) → (l : Loading) × (now (l .file) ≡ i) × (now (l .store) ≡ s)
+load-can-be-made κs i s =
+    let l = load i s in (
+      record {
+        κs = κs;
+        file = slice i;
+        store = slice s;
+        result = record { number = l .number; tag = l .tag };
+        store′ = slice (l .store);
+        met = (refl, (refl, refl));
+      },
+      refl,
+      refl,
+    )
+
+-- ---- the length of the reply buffer, where it is well-sized, is not seen
+
+pub step-room : (b : Box) (f random : List ℕ) (room room′ : ℕ) → replySize mf0aes20 ≤ room → replySize mf0aes20 ≤ room′
+    → step b (call.frame f random room) ≡ step b (call.frame f random room′)
+unfolding step frame decide frameNumber misfit
+step-room b f random room room′ h h′ = rw (le-ltb room (replySize mf0aes20) h, le-ltb room′ (replySize mf0aes20) h′)

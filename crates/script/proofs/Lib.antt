@@ -1,5 +1,5 @@
 pub mod Listed
 pub mod Digits
-pub mod Lines
+pub mod Frames
 pub mod Texts
-pub mod Turns
+pub mod Pieces

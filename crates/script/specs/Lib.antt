@@ -2,4 +2,4 @@
 pub mod Listed
 pub mod Line
 pub mod Answer
-pub mod Play
+pub mod Lines

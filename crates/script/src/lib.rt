@@ -1,4 +1,4 @@
-// A bench script: what a line asks, the text of an answer, and a line played (document 01, "Image file and bench program").
+// A bench script: where a line ends, what it asks, and the text of an answer (document 01, "Image file and bench program").
 pub mod answer;
 pub mod line;
-pub mod play;
+pub mod lines;

@@ -1,4 +1,2 @@
-pub mod Bytes
 pub mod Fits
 pub mod Frames
-pub mod PartTwo

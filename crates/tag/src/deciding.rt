@@ -1,5 +1,4 @@
 // What a frame comes to: the checks in document 01's order, then the command. It only reads.
-use crate::login;
 use judge::telling;
 use memory::record;
 use model::Command;

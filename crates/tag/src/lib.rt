@@ -1,60 +1,31 @@
 // The calls of the tag: power, select, frame, load and save. None asks anything of its caller; each is its definition of the same name in `model`.
 mod deciding;
-mod keys;
-mod login;
 
 use effect::speaking;
 use effect::storing;
+use events::Answer;
 use image::Loading;
-use model::Reply;
 use model::State;
 use model::Tag;
 ghost use mathlib.Core.Path.{_≡_};
 ghost use lib.ListN.{length};
 ghost use Rattle.model.specs.declared.Reply.the-variants.{Silence};
-ghost use Rattle.model.specs.Record.{zeros, fleeting, power, select};
+ghost use Rattle.model.specs.Record.{power, select};
 ghost use Rattle.model.specs.Frame.{frame, replyOf, laidOver};
 ghost use Rattle.model.specs.Image.{load, save};
-
-// What a call hands back: its number, its reply, and the record that the next call is given.
-pub struct Answer {
-    pub number: u8,
-    pub reply: Reply,
-    pub tag: Tag,
-}
-
-// What an event hands back: 0 with silence, and the record in another state with no challenge.
-fn event(tag: Tag, st: State) -> Answer
-    ensures { λ r. ⌜ r ≡ record { number = 0; reply = Silence; tag = fleeting st zeros tag } ⌝ }
-{
-    let counters = tag.counters;
-    let originality = tag.originality;
-    let next = Tag {
-        counters,
-        failed: tag.failed,
-        originality,
-        state: st,
-        challenge: [0u8; 16],
-    };
-    Answer {
-        number: 0,
-        reply: Reply::Silence,
-        tag: next,
-    }
-}
 
 // The field comes on: the tag waits.
 pub fn power(tag: Tag) -> Answer
     ensures { λ r. ⌜ r ≡ record { number = 0; reply = Silence; tag = power tag } ⌝ }
 {
-    event(tag, State::Waiting)
+    events::event(tag, State::Waiting)
 }
 
 // The reader selects the tag, whatever its state.
 pub fn select(tag: Tag) -> Answer
     ensures { λ r. ⌜ r ≡ record { number = 0; reply = Silence; tag = select tag } ⌝ }
 {
-    event(tag, State::Active)
+    events::event(tag, State::Active)
 }
 
 // A frame, with sixteen random bytes and a buffer for the reply.

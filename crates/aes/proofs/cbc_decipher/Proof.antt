@@ -7,7 +7,7 @@ use Rattle.aes.proofs.cbc_decipher.Tie as tie
 
 returns : tie.Need-returns
 unfolding cbcDecipher
-returns c = cc
+returns c = rw (c .xor-block .ensures, c .before .decipher .ensures)
 
 pub cbc-decipher-spec : {M : Type 1} → statement M
 cbc-decipher-spec = tie.close (tie.spec (λ c κs. search needs) (λ c κs. search needs) returns)

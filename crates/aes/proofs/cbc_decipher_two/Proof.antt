@@ -19,7 +19,7 @@ inv-cipher-requires-2 c κs = refl
 
 returns : tie.Need-returns
 unfolding cbcDecipherTwo cbcDecipher fips197.decipher
-returns c = cc
+returns c = rw (c .xor-block2 .ensures, c .before .xor-block .ensures, c .before .before .inv-cipher2 .ensures, c .before .before .before .before .before .inv-cipher .ensures, c .before .before .before .before .before .before .before .before .block-of2 .ensures, c .before .before .before .before .before .before .before .before .before .block-of .ensures, c .before .before .before .before .before .before .before .before .before .before .key-schedule .ensures)
 
 pub cbc-decipher-two-spec : {M : Type 1} → statement M
 cbc-decipher-two-spec =

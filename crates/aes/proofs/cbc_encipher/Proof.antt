@@ -7,7 +7,7 @@ use Rattle.aes.proofs.cbc_encipher.Tie as tie
 
 returns : tie.Need-returns
 unfolding cbcEncipher
-returns c = cc
+returns c = rw (c .encipher .ensures, c .before .xor-block .ensures)
 
 pub cbc-encipher-spec : {M : Type 1} → statement M
 cbc-encipher-spec = tie.close (tie.spec (λ c κs. search needs) (λ c κs. search needs) returns)

@@ -13,7 +13,7 @@ inv-cipher-requires c κs = refl
 
 returns : tie.Need-returns
 unfolding fips197.decipher
-returns c = cc
+returns c = rw (c .inv-cipher .ensures, c .before .before .before .key-schedule .ensures)
 
 pub decipher-spec : {M : Type 1} → statement M
 decipher-spec = tie.close (tie.spec (λ c κs. search needs) inv-cipher-requires returns)

@@ -16,7 +16,7 @@ cipher-requires c κs = refl
 
 returns : tie.Need-returns
 unfolding fips197.encipher
-returns c = cc
+returns c = rw (c .cipher .ensures, c .before .before .before .expand .ensures)
 
 pub encipher-spec : {M : Type 1} → statement M
 encipher-spec = tie.close (tie.spec expand-requires cipher-requires returns)

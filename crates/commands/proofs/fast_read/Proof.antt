@@ -9,7 +9,7 @@ use Rattle.model.specs.declared.Say.the-variants.{Range}
 use Rattle.model.specs.Numbers.{answered}
 use Rattle.model.specs.Reading.{fastReadNumber}
 use Rattle.model.specs.Frame.{commandNumber, commandDone}
-use Rattle.commands.proofs.Ruling.{done-by, refused-by, fast-read-other}
+use Rattle.model.proofs.Ruling.{done-by, refused-by, fast-read-other}
 use Rattle.commands.proofs.fast_read.Statement.{statement}
 use Rattle.commands.proofs.fast_read.Tie as tie
 

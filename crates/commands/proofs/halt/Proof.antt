@@ -13,7 +13,7 @@ use Rattle.model.specs.declared.Tag.{Tag}
 use Rattle.model.specs.declared.Command.the-variants.{Halt}
 use Rattle.model.specs.Numbers.{numberIf}
 use Rattle.model.specs.Frame.{commandNumber, commandDone}
-use Rattle.commands.proofs.Ruling.{done-by, refused-by, halt-other}
+use Rattle.model.proofs.Ruling.{done-by, refused-by, halt-other}
 use Rattle.commands.proofs.halt.Statement.{statement}
 use Rattle.commands.proofs.halt.Tie as tie
 

@@ -14,7 +14,7 @@ use Rattle.model.specs.Numbers.{acknowledged}
 use Rattle.model.specs.Counters.{increment, incrCntNumber}
 use Rattle.model.specs.Frame.{data4, commandNumber, commandDone}
 use Rattle.model.proofs.Sound.{increment-low}
-use Rattle.commands.proofs.Ruling.{done-by, refused-by, incr-cnt-other}
+use Rattle.model.proofs.Ruling.{done-by, refused-by, incr-cnt-other}
 use Rattle.commands.proofs.incr_cnt.Statement.{statement}
 use Rattle.commands.proofs.incr_cnt.Tie as tie
 

@@ -9,7 +9,7 @@ use Rattle.model.specs.declared.Say.the-variants.{Window}
 use Rattle.model.specs.Numbers.{answered}
 use Rattle.model.specs.Reading.{readNumber}
 use Rattle.model.specs.Frame.{commandNumber, commandDone}
-use Rattle.commands.proofs.Ruling.{done-by, refused-by, read-other}
+use Rattle.model.proofs.Ruling.{done-by, refused-by, read-other}
 use Rattle.commands.proofs.read.Statement.{statement}
 use Rattle.commands.proofs.read.Tie as tie
 

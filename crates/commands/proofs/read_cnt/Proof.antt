@@ -9,7 +9,7 @@ use Rattle.model.specs.declared.Say.the-variants.{Count}
 use Rattle.model.specs.Numbers.{answered}
 use Rattle.model.specs.Counters.{readCntNumber}
 use Rattle.model.specs.Frame.{commandNumber, commandDone}
-use Rattle.commands.proofs.Ruling.{done-by, refused-by, read-cnt-other}
+use Rattle.model.proofs.Ruling.{done-by, refused-by, read-cnt-other}
 use Rattle.commands.proofs.read_cnt.Statement.{statement}
 use Rattle.commands.proofs.read_cnt.Tie as tie
 

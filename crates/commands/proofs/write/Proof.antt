@@ -8,7 +8,7 @@ use Rattle.model.specs.declared.Effect.the-variants.{Page}
 use Rattle.model.specs.Numbers.{acknowledged}
 use Rattle.model.specs.Writing.{writeNumber, written}
 use Rattle.model.specs.Frame.{commandNumber, commandDone}
-use Rattle.commands.proofs.Ruling.{done-by, refused-by, write-other}
+use Rattle.model.proofs.Ruling.{done-by, refused-by, write-other}
 use Rattle.commands.proofs.write.Statement.{statement}
 use Rattle.commands.proofs.write.Tie as tie
 

@@ -9,7 +9,7 @@ use denote.Ref.{now}
 use Rattle.fips197.proofs.Cipher.{invRounds-step}
 use Rattle.fips197.specs.State.{addRoundKey}
 use Rattle.fips197.specs.Cipher.{invRounds, invLastRound, invCipher}
-use Rattle.aes.specs.Words.{columnsOf}
+use Rattle.columns.specs.Words.{columnsOf}
 use Rattle.aes.proofs.inverse_rounds.inv_cipher.Statement.{statement}
 use Rattle.aes.proofs.inverse_rounds.inv_cipher.Tie as tie
 

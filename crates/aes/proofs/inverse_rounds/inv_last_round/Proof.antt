@@ -6,7 +6,7 @@ use denote.Ref.{now}
 use Rattle.fips197.specs.SBox.{invSBox}
 use Rattle.fips197.specs.State.{invSubBytes, invShiftRows, addRoundKey}
 use Rattle.fips197.specs.Cipher.{invLastRound}
-use Rattle.aes.specs.Words.{subBytesBy}
+use Rattle.columns.specs.Words.{subBytesBy}
 use Rattle.aes.proofs.inverse_rounds.inv_last_round.Statement.{statement}
 use Rattle.aes.proofs.inverse_rounds.inv_last_round.Tie as tie
 

@@ -6,7 +6,7 @@ use denote.Ref.{now}
 use Rattle.fips197.specs.SBox.{invSBox}
 use Rattle.fips197.specs.State.{invSubBytes, invShiftRows, invMixColumns, addRoundKey}
 use Rattle.fips197.specs.Cipher.{invRound}
-use Rattle.aes.specs.Words.{subBytesBy}
+use Rattle.columns.specs.Words.{subBytesBy}
 use Rattle.aes.proofs.inverse_rounds.inv_round.Statement.{statement}
 use Rattle.aes.proofs.inverse_rounds.inv_round.Tie as tie
 

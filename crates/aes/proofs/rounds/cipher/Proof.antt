@@ -8,7 +8,7 @@ use borrow.Author.Needs.{needs}
 use denote.Ref.{now}
 use Rattle.fips197.specs.State.{addRoundKey}
 use Rattle.fips197.specs.Cipher as cipher
-use Rattle.aes.specs.Words.{columnsOf}
+use Rattle.columns.specs.Words.{columnsOf}
 use Rattle.aes.proofs.rounds.cipher.Statement.{statement}
 use Rattle.aes.proofs.rounds.cipher.Tie as tie
 

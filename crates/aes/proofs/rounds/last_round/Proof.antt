@@ -8,7 +8,7 @@ use denote.Ref.{now}
 use Rattle.fips197.specs.SBox.{sBox}
 use Rattle.fips197.specs.State.{subBytes, shiftRows, addRoundKey}
 use Rattle.fips197.specs.Cipher.{lastRound}
-use Rattle.aes.specs.Words.{columnsOf, subBytesBy}
+use Rattle.columns.specs.Words.{columnsOf, subBytesBy}
 use Rattle.aes.proofs.rounds.last_round.Statement.{statement}
 use Rattle.aes.proofs.rounds.last_round.Tie as tie
 

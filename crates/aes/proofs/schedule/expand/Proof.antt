@@ -11,7 +11,7 @@ use lib.Seq.{take-all}
 use borrow.Author.Needs.{needs}
 use Rattle.fips197.specs.KeyExpansion as key
 use Rattle.fips197.proofs.KeyExpansion.{nextWord-take}
-use Rattle.aes.specs.Words.{bytesOf}
+use Rattle.columns.specs.Words.{bytesOf}
 use Rattle.aes.proofs.Stores.{take-four}
 use Rattle.aes.proofs.schedule.expand.Statement.{statement}
 use Rattle.aes.proofs.schedule.expand.Tie as tie

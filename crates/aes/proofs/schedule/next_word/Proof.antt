@@ -9,7 +9,7 @@ use denote.Ref.{now}
 use Rattle.fips197.specs.SBox.{sBox}
 use Rattle.fips197.specs.KeyExpansion.{wordOf, xorWord, rotWord, rcon, added, nextWord}
 use Rattle.fips197.proofs.KeyExpansion.{added-within}
-use Rattle.aes.specs.Words.{bytesOf, subWordBy}
+use Rattle.columns.specs.Words.{bytesOf, subWordBy}
 use Rattle.aes.proofs.schedule.next_word.Statement.{statement}
 use Rattle.aes.proofs.schedule.next_word.Tie as tie
 

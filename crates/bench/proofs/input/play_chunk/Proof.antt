@@ -8,20 +8,21 @@ use Rattle.bench.proofs.input.play_chunk.Statement.{statement}
 use Rattle.bench.proofs.input.play_chunk.Tie as tie
 
 abbrev Inv-loop : tie.InvT-loop
-Inv-loop store₀ line₀ chunk out₀ s₀ from₀ store line out s from =
-    (s .at ≤ 65536) × (s .held ≤ 127) × (length store ≡ length store₀) × (length line ≡ length line₀) × (length out ≡ length out₀)
+Inv-loop store₀ line₀ chunk out₀ p₀ from₀ store line out p from =
+    (p .at ≤ 65536) × (p .held ≤ 127) × (length store ≡ length store₀) × (length line ≡ length line₀) × (length out ≡ length out₀)
 
 abbrev μ-loop : tie.MeasureT-loop
-μ-loop store₀ line₀ chunk out₀ s₀ from₀ store line out s from = length chunk - from
+μ-loop store₀ line₀ chunk out₀ p₀ from₀ store line out p from = length chunk - from
 
 loop-holds : tie.Need-loop-holds Inv-loop μ-loop
 loop-holds c = (omega arith, omega arith, refl, refl, refl)
 
-piece-requires : tie.Need-piece-requires Inv-loop μ-loop
-piece-requires c κs = (omega arith, (omega arith, (omega arith, (omega arith, (omega arith, omega arith)))))
+play-piece-requires : tie.Need-play-piece-requires Inv-loop μ-loop
+play-piece-requires c κs = (omega arith, (omega arith, (omega arith, (omega arith, (omega arith, omega arith)))))
 
 add-from : tie.Need-add-from Inv-loop μ-loop
-add-from c = omega (arith, c .before .before .before .before .before .before .before .before .before .before .before .before .newline-from .ensures .1, c .before .before .before .before .before .before .before .before .before .before .before .before .before .before .before .before .before .before .before .pre .1 .1 .1 .0)
+add-from c =
+    omega (arith, c .before .before .before .before .before .before .before .before .before .before .before .before .newline-from .ensures .1 .1, c .before .before .before .before .before .before .before .before .before .before .before .before .before .before .before .before .before .before .before .pre .1 .1 .1 .0)
 
 loop-again : tie.Need-loop-again Inv-loop μ-loop
 loop-again c = (omega arith, omega arith, omega arith, omega arith, omega arith)
@@ -30,6 +31,6 @@ pub play-chunk-spec : {M : Type 1} → statement M
 play-chunk-spec =
     tie.close
     (tie.spec Inv-loop μ-loop
-    loop-holds (λ c κs. omega arith) piece-requires (λ c. omega arith) (λ c. omega arith) (λ c. omega arith)
+    loop-holds (λ c κs. omega arith) play-piece-requires (λ c. omega arith) (λ c. omega arith) (λ c. omega arith)
     (λ c. (omega arith, omega arith)) add-from (λ c. omega arith) loop-again (λ c. omega arith) (λ c. omega arith) (λ c. omega arith)
     (λ c. (omega arith, omega arith)))

@@ -8,11 +8,11 @@ use Rattle.bench.proofs.input.play_input.Statement.{statement}
 use Rattle.bench.proofs.input.play_input.Tie as tie
 
 abbrev Inv-loop : tie.InvT-loop
-Inv-loop store₀ chunk₀ out₀ line₀ s₀ turns₀ store chunk out line s turns =
-    (s .at ≡ 0) × (s .held ≤ 127) × (length store ≡ length store₀) × (length chunk ≡ 65536) × (length out ≡ 65536) × (length line ≡ 128)
+Inv-loop store₀ chunk₀ out₀ line₀ p₀ turns₀ store chunk out line p turns =
+    (p .at ≡ 0) × (p .held ≤ 127) × (length store ≡ length store₀) × (length chunk ≡ 65536) × (length out ≡ 65536) × (length line ≡ 128)
 
 abbrev μ-loop : tie.MeasureT-loop
-μ-loop store₀ chunk₀ out₀ line₀ s₀ turns₀ store chunk out line s turns = turns
+μ-loop store₀ chunk₀ out₀ line₀ p₀ turns₀ store chunk out line p turns = turns
 
 loop-holds : tie.Need-loop-holds Inv-loop μ-loop
 loop-holds c = (omega arith, omega arith, refl, omega arith, omega arith, refl)

@@ -6,7 +6,7 @@ use Rattle.effect.proofs.speaking.lay_count.Statement.{statement}
 use Rattle.effect.proofs.speaking.lay_count.Tie as tie
 
 returns : tie.Need-returns
-returns c = record { count = refl; bytes = cc }
+returns c = record { count = refl; bytes = rw (c .before .before .put3 .ensures, c .before .before .before .before .before .before .put2 .ensures, c .before .before .before .before .before .before .before .before .before .before .put .ensures) }
 
 pub lay-count-spec : {M : Type 1} → statement M
 lay-count-spec =

@@ -19,7 +19,7 @@ fourth n = omega arith
 returns : tie.Need-returns
 returns c =
     let n = 4 * c .before .before .before .before .before .before .before .before .before .before .before .before .before .before .before .before .before .args .p in
-    cc (second n, third n, fourth n)
+    rw (c .before .before .put4 .ensures, c .before .before .before .before .before .before .put3 .ensures, c .before .before .before .before .before .before .before .before .before .before .put2 .ensures, c .before .before .before .before .before .before .before .before .before .before .before .before .before .before .put .ensures, fourth n, third n, second n)
 
 pub store-page-spec : {M : Type 1} → statement M
 store-page-spec =

@@ -7,7 +7,15 @@ use Rattle.effect.proofs.storing.tag_after.Tie as tie
 
 returns : tie.Need-returns
 unfolding tagAfter
-returns c = cc
+returns c =
+    let a = c .before .before .before .before .before .args in
+    λ i. record {
+      counters = c .before .counters-after .ensures i;
+      failed = c .failed-after .ensures i;
+      originality = a .tag .originality;
+      state = a .d .state;
+      challenge = a .d .challenge;
+    }
 
 pub tag-after-spec : {M : Type 1} → statement M
 tag-after-spec = tie.close (tie.spec (λ c κs. search needs) (λ c κs. search needs) returns)

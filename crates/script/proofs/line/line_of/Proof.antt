@@ -6,7 +6,7 @@ use native.Mathlib.Omega.{arith}
 use borrow.Author.Needs.{needs, fits-under}
 use denote.Ref.{now}
 use Rattle.script.specs.Line.{lineOf, frameRight}
-use Rattle.script.proofs.Lines.{frame-long}
+use Rattle.script.proofs.Frames.{frame-long}
 use Rattle.script.proofs.line.line_of.Statement.{statement}
 use Rattle.script.proofs.line.line_of.Tie as tie
 

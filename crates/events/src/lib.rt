@@ -1,0 +1,34 @@
+// What a call hands back, and what an event does.
+use model::Reply;
+use model::State;
+use model::Tag;
+ghost use mathlib.Core.Path.{_≡_};
+ghost use Rattle.model.specs.declared.Reply.the-variants.{Silence};
+ghost use Rattle.model.specs.Record.{zeros, fleeting};
+
+// What a call hands back: its number, its reply, and the record that the next call is given.
+pub struct Answer {
+    pub number: u8,
+    pub reply: Reply,
+    pub tag: Tag,
+}
+
+// What an event hands back: 0 with silence, and the record in another state with no challenge.
+pub fn event(tag: Tag, st: State) -> Answer
+    ensures { λ r. ⌜ r ≡ record { number = 0; reply = Silence; tag = fleeting st zeros tag } ⌝ }
+{
+    let counters = tag.counters;
+    let originality = tag.originality;
+    let next = Tag {
+        counters,
+        failed: tag.failed,
+        originality,
+        state: st,
+        challenge: [0u8; 16],
+    };
+    Answer {
+        number: 0,
+        reply: Reply::Silence,
+        tag: next,
+    }
+}

@@ -1,0 +1,14 @@
+-- `player::next_count` meets its contract. Assumes nothing.
+use borrow.Author.Needs.{needs}
+use borrow.Author.Tests.{lt-ltb, le-ltb}
+use Rattle.player.proofs.next_count.Statement.{statement}
+use Rattle.player.proofs.next_count.Tie as tie
+
+returns : tie.Need-returns
+returns c = simp (lt-ltb _ _ (c .if1 .taken))
+
+returns-2 : tie.Need-returns-2
+returns-2 c = simp (le-ltb _ _ (c .if1 .left))
+
+pub next-count-spec : {M : Type 1} → statement M
+next-count-spec = tie.close (tie.spec (λ c. search needs) returns returns-2)

@@ -1,0 +1,38 @@
+-- `player::sent` meets its contract: the frame's answer makes the turn.
+-- Assumes nothing.
+use mathlib.Core.Path.{_≡_, refl, sym, subst}
+use mathlib.Core.List.{List}
+use Prim.Native.Nat.{ℕ}
+use native.Mathlib.Omega.{arith}
+use borrow.Author.Needs.{needs}
+use denote.Ref.{now}
+use lib.ListN.{length}
+use lib.Seq.{length-take-le}
+use Rattle.script.specs.Answer.{WrittenAt}
+use Rattle.player.proofs.Turns.{sent-turn}
+use Rattle.player.proofs.sent.Statement.{statement}
+use Rattle.player.proofs.sent.Tie as tie
+
+returns : tie.Need-returns
+returns c =
+    let a = c .before .before .before .before .before .before .before .before .before .before .before .before .before .before .before .before .before .before .before .before .before .before .before .args in
+    let h = c .before .before .before .before .before .before .before .before .before .frame .ensures in
+    let text = c .before .before .spoken .ensures in
+    let back =
+    sent-turn (a .tag) (now (a .store)) (now (a .line)) (a .n) (a .count) _ (c .before .before .before .before .before .before .before .before .before .before .before .before .before .before .before .random-of .result) (c .before .before .before .before .before .before .before .before .before .before .before .before .before .before .reply-buffer .result) _ _
+    (c .before .before .before .before .before .before .before .before .before .frame .result) (c .before .before .before .before .before .before .before .before .before .before .before .before .before .before .before .before .before .frame-of .ensures .1) (c .before .before .before .before .before .before .before .before .before .before .before .before .before .before .before .random-of .ensures) (c .before .before .before .before .before .before .before .before .before .before .before .before .before .before .reply-buffer .ensures)
+    (h .0) (h .1 .0) (h .1 .1 .0) (h .1 .1 .1 .0) (h .1 .1 .1 .1) in
+    (back .tag, (refl, (text .1, (rw (back .text) at text .0, back .store))))
+
+-- the part of the buffer that is lent is as long as the frame
+within : tie.Need-slice-aggregate-frame
+within c =
+    let f = c .before .before .before .before .before .frame-of in
+    sym (length-take-le (f .result) (f .last .1 .1 .0) (omega (arith, f .ensures .0, f .kept .1 .1 .0, c .before .before .before .before .before .before .before .frame-buffer .ensures)))
+
+pub sent-spec : {M : Type 1} → statement M
+sent-spec =
+    tie.close
+    (tie.spec (λ c κs. search needs) (λ c. search needs) (λ c κs. search needs) (λ c κs. search needs) (λ c κs. search needs) (λ c. search needs)
+    within (λ c. search needs) (λ c. search needs) (λ c κs. search needs) (λ c. search needs) (λ c κs. search needs) (λ c. search needs)
+    (λ c. search needs) returns)

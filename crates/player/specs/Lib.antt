@@ -1,0 +1,2 @@
+-- A line of a script, played.
+pub mod Play
