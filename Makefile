@@ -1,5 +1,6 @@
-# test is the gate: proofs, must-fail edits, programs and host tests. demo plays the ten-ride ticket and says what happened.
-.PHONY: demo test
+# test is the gate: proofs, must-fail edits, programs and host tests. demo plays the ten-ride ticket and says what happened. lib makes the library for C.
+# benchmark times the library beside the plain Rust tag.
+.PHONY: demo test lib benchmark
 
 demo:
 	rt check bench
@@ -7,3 +8,12 @@ demo:
 
 test:
 	.ci/run
+
+lib:
+	rt staticlib tag_c
+	@echo 'library: target/staticlib/libtag_c.a'
+	@echo 'header:  include/kazdumera.h'
+	@echo 'guide:   docs/C-FORM.md'
+
+benchmark:
+	host/benchmark/benchmark.sh

@@ -623,8 +623,8 @@ COUNTERS = [
 
 # AUTHENTICATE
 PART_1 = sent([0x1A, 0x00], 0, data(b"\xaf" + STEP_2), RND_B)
-# Table 17, and logins with the keys that 8.6.3 writes: with document 01's own, since a wrong order of a key's bytes shows in these alone
-KEY_LOGINS = [
+LOGINS = [
+    # Table 17, and logins with the keys that 8.6.3 writes
     ("table17", "009 Table 17 in full: the login with the key of zeros.", [TABLE_KEY_PAGES],
      [TO_ACTIVE, sent([0x1A, 0x00], 0, data(b"\xaf" + STEP_2), RND_B), sent(b"\xaf" + STEP_3, 0, data(b"\x00" + STEP_4))], [], "Authenticated"),
     ("dataProtKey", "8.6.3's WRITEs of the key 000102..0F as DataProtKey, and a login with it; the count 20 is lowered by 16.",
@@ -634,8 +634,6 @@ KEY_LOGINS = [
      [AUTH_LIM_0028, RANDOM_ID, failed(5)],
      [TO_ACTIVE] + key_writes(0x34) + [part_1(1, KEY_863, B_2), part_2(KEY_863, A_2, B_2), sent([0x3A, 0x00, 0x02], 0, data(stored(0x00, 0x02)))],
      key_pages(0x34) + [failed(0)], "Traceable"),
-]
-LOGINS = [
     ("falseProof", "A proof whose last bit is wrong, AUTH_LIM 0102h: 8, and the count goes from 0101h to 0102h. The next frame is 1.",
      [TABLE_KEY_PAGES, AUTH_LIM_0102, failed(0x0101)],
      [TO_ACTIVE, sent([0x1A, 0x00], 0, data(b"\xaf" + STEP_2), RND_B), sent(b"\xaf" + FALSE_PROOF, 8), sent([0x30, 0x04], 1)],
@@ -854,7 +852,7 @@ def statement(name, test, joined):
 
 
 def document_rows():
-    return rows("cases", DOCUMENT + KEY_LOGINS) + statement("CasesRight", "allRight", "cases")
+    return rows("cases", DOCUMENT) + statement("CasesRight", "allRight", "cases")
 
 
 def themes():

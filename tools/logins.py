@@ -2,7 +2,7 @@
 """The texts of the played logins, worked out from document 01, 009 and FIPS 197.
 
     tools/logins.py            prints the image and the sessions, a text a line
-    tools/logins.py --check    says whether they are the texts of crates/vectors/src/login.rt; exit 1 if not
+    tools/logins.py --check    says whether they are the texts of crates/logins/src/lib.rt; exit 1 if not
 
 AES-128, CRC_A and the image are those of tools/cases.py, which uses nothing of the definition of the tag. Python 3, no library.
 """
@@ -15,7 +15,7 @@ sys.dont_write_bytecode = True
 from cases import (BASE, FALSE_PROOF, GARBLED, KEY_863, POWER, RND_B, SELECT, SPARE, STEP_2, STEP_3, STEP_4, STORE, TABLE_KEY, data, framed,
                    hexed, key_writes, part_1, part_2, read, sent, stored)
 
-SOURCE = os.path.join(os.path.dirname(os.path.abspath(__file__)), "..", "crates", "vectors", "src", "login.rt")
+SOURCE = os.path.join(os.path.dirname(os.path.abspath(__file__)), "..", "crates", "logins", "src", "lib.rt")
 
 # the image of the cases with Random ID on, AUTH0 38h, PROT, AUTH_LIM 0028h, and 20 failed attempts
 IMAGE = bytearray(BASE)

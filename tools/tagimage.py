@@ -1,7 +1,7 @@
 """Image files of the tag: where things stand in them, and settings that a person can read.
 
 make_image.py, show_image.py and the tests share this file. Places of sections and pages come from crates/layout/stdout, which the program `layout`
-prints: the numbers come from the proved functions of `image` and `memory`; that each stands beside the right name is not proved, and comes from reading.
+prints: the numbers come from the proved functions of `sections`, `image` and `memory`; that each stands beside the right name is not proved, and comes from reading.
 Bits inside a page are those of docs/DATASHEET.md, sections 2 to 8. Python 3, no library.
 """
 

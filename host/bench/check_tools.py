@@ -90,7 +90,7 @@ def played_row(tag, row):
 def oracle_rows():
     """Every row of frames that tools/cases.py works out, those that begin in another state than a loading leaves too."""
     found = []
-    for rows in [cases.DOCUMENT, cases.KEY_LOGINS] + [table for _, _, table in cases.THEMES]:
+    for rows in [cases.DOCUMENT] + [table for _, _, table in cases.THEMES]:
         for row in rows:
             found += played_row(oracle.Tag(patched(cases.BASE, row[2])), row)
     for state, challenge, *row in cases.BEGUN:

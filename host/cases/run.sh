@@ -1,5 +1,5 @@
 #!/bin/sh
-# Whether the rows of the bench cases and the logins of crates/vectors are those that tools/cases.py and tools/logins.py work out, from any folder.
+# Whether the rows of the bench cases and the logins of crates/logins are those that tools/cases.py and tools/logins.py work out, from any folder.
 set -eu
 cd "$(dirname "$0")/../.."
 if python3 tools/cases.py --check && python3 tools/logins.py --check; then

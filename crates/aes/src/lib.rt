@@ -1,10 +1,7 @@
 // AES-128 of FIPS 197 and the CBC mode of NIST SP 800-38A: keys and blocks by value, for any bytes. A public call copies each table that
 // it needs once, and lends it to the functions below it.
 mod inv_sbox;
-mod inverse_rounds;
-mod rounds;
 mod sbox;
-mod schedule;
 
 use columns::state;
 use columns::words;
@@ -37,7 +34,7 @@ pub fn decipher(key: [u8; 16], block: [u8; 16]) -> [u8; 16]
 {
     let w = key_schedule(key);
     let table = inv_sbox::INV_SBOX;
-    inverse_rounds::inv_cipher(&table, &w, block)
+    rounds::inv_cipher(&table, &w, block)
 }
 
 // One block enciphered in CBC mode: chain is the ciphertext before it, or the initialization vector.
@@ -67,8 +64,8 @@ pub fn cbc_decipher_two(key: [u8; 16], chain: [u8; 16], ciphertext: &[u8]) -> Tw
     let table = inv_sbox::INV_SBOX;
     let c1 = state::block_of(ciphertext, 0);
     let c2 = state::block_of(ciphertext, 16);
-    let p1 = inverse_rounds::inv_cipher(&table, &w, c1);
-    let p2 = inverse_rounds::inv_cipher(&table, &w, c2);
+    let p1 = rounds::inv_cipher(&table, &w, c1);
+    let p2 = rounds::inv_cipher(&table, &w, c2);
     let first = words::xor_block(p1, chain);
     let second = words::xor_block(p2, c1);
     TwoBlocks { first, second }

@@ -1,14 +1,12 @@
 // The bench program: an image by name, lines from standard input, and an answer for each (document 01, "Image file and bench program").
 mod file;
-mod input;
-mod progress;
 
 use libc::STDOUT_FILENO;
 
 // An image that is refused or can't be opened: its number and nothing more.
 fn refused(number: u8) {
     let mut text = io::buffer();
-    let n = script::answer::answer(&mut text, number, b"");
+    let n = answers::answer::answer(&mut text, number, b"");
     io::write_all(STDOUT_FILENO, &text[..n]);
 }
 

@@ -4,7 +4,7 @@
 --   bit-lt, digit                a bit is below 2; a bit is a digit
 --   bit-or, bit-and, bit-xor     a bit of the result, from the same bit of the two operands
 --   bits-ext                     two numbers whose bits are all equal are equal
---   or-byte, and-byte, xor-byte  an operation on two bytes gives a byte
+--   xor-byte                     two bytes xored give a byte
 --
 -- Assumes nothing.
 use mathlib.Core.Path.{_≡_, refl, sym, ap, ap₂, _∙_}
@@ -12,7 +12,7 @@ use Prim.Native.Nat.{ℕ, zero, suc, _+_, _*_, _/_, _%_, _^_, _<_, min, max}
 use native.Mathlib.Nat.{mod-lt, zero-lt-suc, div-add-mod', div-div-eq-div-mul, pow-succ', div-one}
 use native.Mathlib.Omega.{arith}
 use lib.Arith.{bin-ind}
-use lib.Bits.{bitAnd, bitOr, bitXor, differ, and-shr, or-shr, xor-shr, and-mod, or-mod, xor-mod, and-lt, or-lt, xor-lt}
+use lib.Bits.{bitAnd, bitOr, bitXor, differ, and-shr, or-shr, xor-shr, and-mod, or-mod, xor-mod, xor-lt}
 use Rattle.bits.specs.Bits.{bitOf}
 
 -- 0 or 1, as a type of two cases: a law of single digits is proved case by case
@@ -85,11 +85,5 @@ bits-ext =
     (λ a ih b. from-half a b (ih (b / 2)))
 
 -- bytes are numbers of 8 bits
-pub or-byte : {a b : ℕ} → a < 256 → b < 256 → bitOr a b < 256
-or-byte {a} {b} = or-lt 8 a b
-
-pub and-byte : {a b : ℕ} → a < 256 → b < 256 → bitAnd a b < 256
-and-byte {a} {b} = and-lt 8 a b
-
 pub xor-byte : {a b : ℕ} → a < 256 → b < 256 → bitXor a b < 256
 xor-byte {a} {b} = xor-lt 8 a b

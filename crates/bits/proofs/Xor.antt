@@ -1,7 +1,7 @@
 -- Laws of xor that lib.Bits does not have, each from the law of single digits.
 --
 --   xor-assoc                  xor associates
---   xor-cancel, xor-cancel-l   what is xored in twice is gone
+--   xor-cancel                 what is xored in twice is gone
 --   xor-left-comm              the first two of three change places
 --   xor-swap                   the middle two of four change places
 --
@@ -22,9 +22,6 @@ xor-assoc a b c = bits-ext _ _ (λ k. simp bit-xor (differ-assoc (digit k a) (di
 
 pub xor-cancel : (a b : ℕ) → bitXor (bitXor a b) b ≡ a
 xor-cancel a b = simp (xor-assoc, xor-self, xor-zero-r)
-
-pub xor-cancel-l : (a b : ℕ) → bitXor a (bitXor a b) ≡ b
-xor-cancel-l a b = sym (xor-assoc a a b) ∙ ap (λ (x : ℕ). bitXor x b) (xor-self a)
 
 pub xor-left-comm : (a b c : ℕ) → bitXor a (bitXor b c) ≡ bitXor b (bitXor a c)
 xor-left-comm a b c = sym (xor-assoc a b c) ∙ ap (λ (x : ℕ). bitXor x c) (xor-comm a b) ∙ xor-assoc b a c

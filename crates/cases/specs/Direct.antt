@@ -13,7 +13,7 @@ use Rattle.model.specs.declared.State.{State}
 use Rattle.model.specs.declared.State.the-variants.{Waiting, Active, Authenticated, Challenged, Unknown}
 use Rattle.model.specs.Record.{zeros}
 use Rattle.model.specs.Frame.{Said, silence, nibble, bytes}
-use Rattle.model.specs.CaseImages.{hex, page, counter, failed, patched, base}
+use Rattle.model.specs.CaseImages.{hex, counter, failed, patched, base}
 use Rattle.model.specs.CaseForm.{blank}
 use Rattle.cases.specs.DirectForm.{Direct, framed, loads, saves, allDirectRight}
 use Rattle.cases.specs.States.{stateRows}

@@ -11,6 +11,57 @@ use Rattle.model.specs.CaseForm.{Case, selected, toActive, sentWith, sent, ack}
 
 -- ---- from here on written by tools/cases.py
 
+-- 009 Table 17 in full: the login with the key of zeros.
+abbrev pub table17 : Case
+table17 = record {
+  image = patched base (page 0x30 (hex 16 0x00000000_00000000_00000000_00000000) ∷ []);
+  lines =
+      toActive ++ (
+      sentWith (hex 16 0x1ae4174ca173ebbc59165cebe2f20821) (hex 4 0x1a00_4176) 0
+      (bytes (hex 19 0xaf_d5a847b84862ff3874a7f07b8ddf351b_87e7)) ∷
+      sent (hex 35 0xaf_cdf22c5f7a92f0af0155612b9b236ac7_a424bc5238d41ad041b8165b7d99e524_334a) 0
+      (bytes (hex 19 0x00_2c743d6b1e128f8076bd197b76012ce8_6bb3)) ∷ []);
+  changed = [];
+  state = Authenticated;
+}
+
+-- 8.6.3's WRITEs of the key 000102..0F as DataProtKey, and a login with it; the count 20 is lowered by 16.
+abbrev pub dataProtKey : Case
+dataProtKey = record {
+  image = patched base (page 0x2a (hex 4 0x0c052800) ∷ failed (hex 2 0x1400) ∷ []);
+  lines =
+      toActive ++ (
+      sent (hex 8 0xa230_0f0e0d0c_00b3) 0 ack ∷
+      sent (hex 8 0xa231_0b0a0908_8d88) 0 ack ∷
+      sent (hex 8 0xa232_07060504_1ac4) 0 ack ∷
+      sent (hex 8 0xa233_03020100_97ff) 0 ack ∷
+      sentWith (hex 16 0x00112233445566778899aabbccddeeff) (hex 4 0x1a00_4176) 0
+      (bytes (hex 19 0xaf_69c4e0d86a7b0430d8cdb78070b4c55a_bd17)) ∷
+      sent (hex 35 0xaf_d9a6bbd6a82ee3538996b6a5380f7471_a9e3884be8e963b25da88f2e4341416e_58ec) 0
+      (bytes (hex 19 0x00_09b1e7e8455112e5d3ebcab3ff8c90dc_df12)) ∷ []);
+  changed = page 0x30 (hex 16 0x0f0e0d0c_0b0a0908_07060504_03020100) ∷ failed (hex 2 0x0400) ∷ [];
+  state = Authenticated;
+}
+
+-- The same as UIDRetrKey, with Random ID on: TRACEABLE shows the serial number. The count 5 is set to 0.
+abbrev pub uidRetrKey : Case
+uidRetrKey = record {
+  image = patched base (page 0x2a (hex 4 0x0c052800) ∷ page 0x29 (hex 4 0x0100003c) ∷ failed (hex 2 0x0500) ∷ []);
+  lines =
+      toActive ++ (
+      sent (hex 8 0xa234_0f0e0d0c_109e) 0 ack ∷
+      sent (hex 8 0xa235_0b0a0908_9da5) 0 ack ∷
+      sent (hex 8 0xa236_07060504_0ae9) 0 ack ∷
+      sent (hex 8 0xa237_03020100_87d2) 0 ack ∷
+      sentWith (hex 16 0x00112233445566778899aabbccddeeff) (hex 4 0x1a01_c867) 0
+      (bytes (hex 19 0xaf_69c4e0d86a7b0430d8cdb78070b4c55a_bd17)) ∷
+      sent (hex 35 0xaf_d9a6bbd6a82ee3538996b6a5380f7471_a9e3884be8e963b25da88f2e4341416e_58ec) 0
+      (bytes (hex 19 0x00_09b1e7e8455112e5d3ebcab3ff8c90dc_df12)) ∷
+      sent (hex 5 0x3a0002_d273) 0 (bytes (hex 14 0x04512cf1_5a93c71e_10480000_ee9a)) ∷ []);
+  changed = page 0x34 (hex 16 0x0f0e0d0c_0b0a0908_07060504_03020100) ∷ failed (hex 2 0x0000) ∷ [];
+  state = Traceable;
+}
+
 -- A proof whose last bit is wrong, AUTH_LIM 0102h: 8, and the count goes from 0101h to 0102h. The next frame is 1.
 abbrev pub falseProof : Case
 falseProof = record {
@@ -137,5 +188,5 @@ shortProof = record {
 
 unfoldable pub loginCases : List Case
 loginCases =
-    falseProof ∷ garbledProof ∷ countAtLimit ∷ originalityKey ∷ keyNumber3 ∷ keyNumberBeforeLimit ∷ limitEachKey ∷ readWhileChallenged ∷
-    shortProof ∷ []
+    table17 ∷ dataProtKey ∷ uidRetrKey ∷ falseProof ∷ garbledProof ∷ countAtLimit ∷ originalityKey ∷ keyNumber3 ∷ keyNumberBeforeLimit ∷
+    limitEachKey ∷ readWhileChallenged ∷ shortProof ∷ []

@@ -5,7 +5,7 @@
 -- tools/cases.py works every value out; Themes.antt joins the lists. Assumes nothing.
 use mathlib.Core.List.{List, [], _∷_, _++_}
 use Rattle.model.specs.declared.State.the-variants.{Waiting, Active}
-use Rattle.model.specs.Frame.{nibble, bytes}
+use Rattle.model.specs.Frame.{nibble}
 use Rattle.model.specs.CaseImages.{hex, page, patched, base}
 use Rattle.model.specs.CaseForm.{Case, selected, toActive, sent, ack}
 

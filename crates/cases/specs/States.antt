@@ -3,7 +3,7 @@
 --     stateRows          the cases
 --
 -- tools/cases.py works every value out; Direct.antt joins the lists. Assumes nothing.
-use mathlib.Core.List.{List, [], _∷_, _++_}
+use mathlib.Core.List.{List, [], _∷_}
 use Rattle.model.specs.declared.State.the-variants.{Waiting, Active, Traceable, Authenticated, Challenged, Unknown}
 use Rattle.model.specs.Record.{zeros}
 use Rattle.model.specs.Frame.{silence, nibble, bytes}

@@ -1,6 +1,5 @@
 // The commands: each judges its own numbers, and says what it comes to where none applies. Every function has the same signature, so that the
 // dispatch is one line an arm.
-use judge::counters;
 use judge::reading;
 use model::Decision;
 use model::Effect;

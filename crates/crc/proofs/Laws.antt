@@ -3,7 +3,6 @@
 --   crcFrom-append   the register after a ++ b goes on from the register after a
 --   Bytes bs         every element of bs is a byte
 --   crcFrom-lt       over bytes a register of 16 bits stays one
---   crcA-lt          the CRC_A of bytes has 16 bits
 --   onAir-lt         the two bytes of a CRC of 16 bits are bytes
 --   onAir-back       low byte + 256 * high byte is the CRC
 --   onAir-length     they are two
@@ -47,10 +46,6 @@ unfolding crcFrom crcByte
 crcFrom-lt r [] h bytes = h
 crcFrom-lt r (b ∷ bs) h bytes =
     crcFrom-lt (crcByte r b) bs (crcBits-lt 8 (bitXor r b) (xor-lt 16 r b h (omega (arith, bytes 0)))) (λ i. bytes (suc i))
-
-pub crcA-lt : (bs : List ℕ) → Bytes bs → crcA bs < 65536
-unfolding crcA
-crcA-lt bs bytes = crcFrom-lt 0x6363 bs (omega arith) bytes
 
 -- ---- the two bytes on air
 

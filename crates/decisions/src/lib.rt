@@ -1,5 +1,4 @@
 // The decisions that a frame can come to, but for the two steps of an authentication, which say a block.
-use judge::numbers;
 use model::Decision;
 use model::Effect;
 use model::Say;

@@ -1,5 +1,1 @@
 pub mod Arms
-pub mod Shown
-pub mod Sealed
-pub mod Data
-pub mod Room

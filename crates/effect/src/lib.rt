@@ -1,3 +1,2 @@
-// What a frame leaves behind: the only code that stores and the only code that writes the reply.
-pub mod speaking;
+// What a frame leaves behind: the only code that stores.
 pub mod storing;

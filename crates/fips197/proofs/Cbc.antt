@@ -11,10 +11,10 @@ use Prim.Native.Nat.{ℕ, _+_, _*_}
 use Rattle.bits.proofs.Bit.{xor-byte}
 use Rattle.bits.proofs.Xor.{xor-cancel}
 use Rattle.fips197.specs.Field.{_xor_}
-use Rattle.fips197.specs.State.{at, state, IsBlock}
+use Rattle.fips197.specs.State.{at, IsBlock}
 use Rattle.fips197.specs.Cipher.{encipher, decipher}
 use Rattle.fips197.proofs.State.{at-state, state-cong, state-at, state-block}
-use Rattle.fips197.proofs.Cipher.{cipher-inverts, encipher-block, decipher-block}
+use Rattle.fips197.proofs.Cipher.{cipher-inverts, decipher-block}
 use Rattle.fips197.specs.Cbc.{xorBlock, cbcEncipher, cbcDecipher, CbcInverts}
 
 pub xorBlock-block : (a b : List ℕ) → IsBlock a → IsBlock b → IsBlock (xorBlock a b)

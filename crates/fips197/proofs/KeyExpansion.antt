@@ -16,7 +16,7 @@ use lib.Dec.{lit<}
 use lib.ListN.{length, getD, take, length-append}
 use lib.Seq.{getD-take}
 use Rattle.bits.proofs.Bit.{xor-byte}
-use Rattle.fips197.specs.Field.{_xor_, xtime}
+use Rattle.fips197.specs.Field.{_xor_}
 use Rattle.fips197.specs.SBox.{sBox}
 use Rattle.fips197.specs.State.{keyByte}
 use Rattle.fips197.specs.KeyExpansion.{word, wordOf, xorWord, rotWord, subWord, powerOfX, rcon, added, nextWord, expand, keyExpansion}

@@ -5,9 +5,8 @@
 --   sBox-byte, invSBox-byte     the tables hold bytes
 --
 -- Assumes nothing.
-use mathlib.Core.Path.{_≡_, sym}
 use Prim.Native.Nat.{ℕ, _<_}
-use lib.Dec.{T, ltb, ltb→lt}
+use lib.Dec.{ltb, ltb→lt}
 use Rattle.bits.specs.Bits.{bitOf}
 use Rattle.bits.proofs.Test.{passes-at, equal-below}
 use Rattle.fips197.specs.Field.{xtime, productOf, product, squares, inverse}

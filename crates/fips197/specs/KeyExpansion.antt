@@ -8,7 +8,7 @@
 --
 -- Assumes nothing.
 use mathlib.Core.List.{List, [], _∷_, _++_}
-use Prim.Native.Nat.{ℕ, zero, suc, _+_, _-_, _*_, _/_, _%_}
+use Prim.Native.Nat.{ℕ, zero, suc, _+_, _-_, _/_, _%_}
 use lib.ListN.{getD}
 use Rattle.fips197.specs.Field.{_xor_, xtime}
 use Rattle.fips197.specs.SBox.{sBox}

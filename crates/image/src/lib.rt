@@ -1,12 +1,12 @@
 // Loading and saving an image file (document 01, "Image file"). Nothing is stored before every check has passed.
-mod reading;
-pub mod sizes;
 mod writing;
 
-use judge::numbers::first;
-use judge::numbers::number_if;
 use model::Map;
 use model::Tag;
+use numbers::first;
+use numbers::number_if;
+use sections::reading;
+use sections::sizes;
 ghost use mathlib.Core.Path.{_≡_};
 ghost use mathlib.Core.Bool.{true};
 ghost use lib.ListN.{length};

@@ -1,7 +1,7 @@
 // The image of a tag, laid over the start of a buffer section by section (document 01, "Image file").
-use super::sizes;
 use model::Map;
 use model::Tag;
+use sections::sizes;
 ghost use mathlib.Core.Path.{_≡_};
 ghost use mathlib.Core.List.{_∷_};
 ghost use Prim.Native.Nat.{_≤_, _<_};
@@ -10,7 +10,7 @@ ghost use lib.Seq.{sets};
 ghost use Rattle.model.specs.Map.{storeSize};
 ghost use Rattle.model.specs.Counters.{lowFirst};
 ghost use Rattle.model.specs.Image.{imageSize, imageOf};
-ghost use Rattle.image.specs.Sections.{countersSection};
+ghost use Rattle.sections.specs.Sections.{countersSection};
 
 // Each section is a count and its bytes.
 fn lay_section(image: &mut [u8], at: usize, count: u8, bytes: &[u8])

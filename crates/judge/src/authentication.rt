@@ -5,7 +5,6 @@ ghost use Prim.Native.Nat.{_<_};
 ghost use lib.Dec.{eqb};
 ghost use Rattle.model.specs.declared.Effect.the-variants.{Keep, Failed};
 ghost use Rattle.model.specs.Authentication.{limitReached, raised, lowered, challengeNumber};
-use crate::numbers;
 use memory::settings;
 use model::Effect;
 use model::Map;

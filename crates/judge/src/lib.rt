@@ -1,7 +1,4 @@
 // What a frame's checks decide: code that only reads, each function one equation with a definition of the tag.
 pub mod authentication;
-pub mod counters;
 pub mod frame;
-pub mod numbers;
 pub mod reading;
-pub mod telling;

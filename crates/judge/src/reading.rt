@@ -1,13 +1,13 @@
 // Document 01, "Reading": READ and FAST_READ, 009 10.2 and 10.3.
 ghost use mathlib.Core.Path.{_≡_};
 ghost use Rattle.model.specs.Reading.{readBarred, readNumber, fastReadNumber};
-use crate::numbers::first;
-use crate::numbers::number_if;
 use memory::record;
 use memory::settings;
 use memory::sizes::last_page;
 use model::Map;
 use model::State;
+use numbers::first;
+use numbers::number_if;
 
 // A page up to the last one asked for is protected.
 pub fn read_barred(map: Map, st: State, s: &[u8], last: u16) -> bool

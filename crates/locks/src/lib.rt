@@ -3,7 +3,6 @@ ghost use mathlib.Core.Path.{_≡_};
 ghost use mathlib.Core.Bool.{cond};
 ghost use Rattle.model.specs.Writing.{auth0Bars, randomIdBars, ownLockBars, pairLockBars, ofKey, keyLockBars, configLockBars};
 ghost use Rattle.model.specs.Writing.{barred, barredNumber, writeNumber};
-use judge::numbers;
 use memory::record;
 use memory::settings;
 use memory::settings::bit_set;

@@ -1,6 +1,4 @@
 // AUTHENTICATE and its second part, 009 8.6.1, 8.6.5 and 10.10.
-mod keys;
-
 use judge::authentication;
 use memory::record;
 use model::Decision;

@@ -7,7 +7,7 @@ use model::Tag;
 // The highest value of a counter, 24 bits (009 8.5.9), and of the failed count.
 pub const HIGHEST_COUNTER: u32 = 0xffffff;
 
-const HIGHEST_FAILED: u16 = 1023;
+pub const HIGHEST_FAILED: u16 = 1023;
 
 // A number for each state; 5 is for every one that doesn't exist.
 pub fn state_number(st: State) -> u8

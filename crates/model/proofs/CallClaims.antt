@@ -5,6 +5,7 @@
 --   read-cnt-low-first
 --   done-dropped         a command that is carried out leaves zeros for the challenge, or CHALLENGED
 --   challenge-dropped
+--   key-order
 --
 -- Assumes nothing.
 use mathlib.Core.Path.{_≡_, refl, sym, ap, _∙_}
@@ -14,8 +15,8 @@ use Prim.Native.Nat.{ℕ, zero, suc, _/_, _%_, _≤_}
 use native.Mathlib.Decide.{ℕ-discrete}
 use native.Mathlib.Omega.{arith}
 use borrow.Author.Tests.{ltb-false, leb-true}
-use lib.Dec.{ltb, leb, eqb}
-use lib.ListN.{length, getD}
+use lib.Dec.{leb}
+use lib.ListN.{getD}
 use Rattle.model.specs.declared.Tag.{Tag}
 use Rattle.model.specs.declared.Command.{Command}
 use Rattle.model.specs.declared.Command.the-variants.{Read, FastRead, Write, ReadCnt, IncrCnt, Authenticate, Proof, Halt}
@@ -24,9 +25,9 @@ use Rattle.model.specs.Record.{zeros, isChallenged, exists, counter, hig
 use Rattle.model.specs.Numbers.{answered, acknowledged}
 use Rattle.model.specs.Telling.{told}
 use Rattle.model.specs.Counters.{readCntNumber}
-use Rattle.model.specs.Authentication.{challenged, proved}
+use Rattle.model.specs.Authentication.{pageKey, keyOf, challenged, proved}
 use Rattle.model.specs.Frame.{commandNumber, halted, commandDone, saidOf, tagAfter, frame}
-use Rattle.model.specs.CallClaims.{ReadCntLowFirst, ChallengeDropped}
+use Rattle.model.specs.CallClaims.{ReadCntLowFirst, ChallengeDropped, KeyOrder}
 use Rattle.model.proofs.Numbers.{decide-number}
 use Rattle.model.proofs.Misfit.{fits-possible}
 use Rattle.model.proofs.Demand1.{refusal-ends}
@@ -99,3 +100,9 @@ challenge-dropped tag s f random room no1 no10 = pick (ℕ-discrete (frame tag s
         let c = carried mf0aes20 tag s f random room (sym (decide-number mf0aes20 tag s f random room) ∙ zero′) in
         rw (c .decided) (done-dropped (c .command) tag s f random)
     pick (no other) = λ _. refusal-ends tag s f random room other no1 no10 .forgotten
+
+-- ---- keys
+
+pub key-order : KeyOrder
+unfolding mf0aes20 pageKey keyOf
+key-order tag = (refl, refl)

@@ -5,12 +5,7 @@
 -- Assumes nothing.
 use Rattle.bits.specs.Bits.{bitOf, oneWay}
 use Rattle.crc.specs.CrcA.{crcBit, crcBits, crcByte, crcFrom, crcA, onAir, withCrc}
-use Rattle.fips197.specs.Field.{xtime, productOf, product}
-use Rattle.fips197.specs.SBox.{sBoxTable, sBox, invSBoxTable, invSBox}
-use Rattle.fips197.specs.State.{subBytes, invSubBytes, shiftRows, invShiftRows, mixColumns, invMixColumns, addRoundKey}
-use Rattle.fips197.specs.KeyExpansion.{powerOfX, nextWord, expand, keyExpansion}
-use Rattle.fips197.specs.Cipher.{round, rounds, lastRound, cipher, encipher, invRound, invRounds, invLastRound, invCipher, decipher}
-use Rattle.fips197.specs.Cbc.{xorBlock, blockOf, cbcEncipher, cbcDecipher}
+use Rattle.fips197.specs.Cbc.{blockOf}
 use Rattle.model.specs.Map.{mf0aes20}
 use Rattle.model.specs.Settings.{randomIdOn, auth0, readProtected, configLocked, incrOpen, readOpen, authLimit, keyLockBit}
 use Rattle.model.specs.Record.{exists, possible}
@@ -20,8 +15,7 @@ use Rattle.model.specs.Reading.{readBarred, readNumber, fastReadNumber, 
 use Rattle.model.specs.Writing.{auth0Bars, randomIdBars, ownLockBars, pairLockBars, keyLockBars, configLockBars, barred, writeNumber}
 use Rattle.model.specs.Writing.{freezeRows, pairFreezeRows, frozen, merged, keepOf, openedOf, written}
 use Rattle.model.specs.Counters.{counterBarred, readCntNumber, incrCntNumber}
-use Rattle.model.specs.Authentication.{pageKey, keyOf, rotated, limitReached, raised, lowered, challengeNumber, challenged}
-use Rattle.model.specs.Authentication.{proofFirst, proofSecond, sameBytes, proofNumber, proved}
+use Rattle.model.specs.Authentication.{raised, sameBytes}
 use Rattle.model.specs.Frame.{misfit, commandNumber, halted, commandDone, frameNumber, notDone, decide, saidOf}
 use Rattle.model.specs.Frame.{countersAfter, failedAfter, storeAfter, tagAfter, frame}
 use Rattle.model.specs.Image.{imageOf, imageRight, tagOf, storeOf, loadNumber, load, saveNumber, save}
@@ -31,16 +25,13 @@ use Rattle.model.specs.CaseForm.{sameSaid, sameState, storedRight, leftR
 use Rattle.model.specs.Cases.{cases, CasesRight}
 
 pub cases-right : CasesRight
-unfolding bitOf oneWay crcBit crcBits crcByte crcFrom crcA onAir withCrc
-    xtime productOf product sBoxTable sBox invSBoxTable invSBox
-    subBytes invSubBytes shiftRows invShiftRows mixColumns invMixColumns addRoundKey powerOfX nextWord expand keyExpansion
-    round rounds lastRound cipher encipher invRound invRounds invLastRound invCipher decipher xorBlock blockOf cbcEncipher cbcDecipher
+unfolding bitOf oneWay crcBit crcBits crcByte crcFrom crcA onAir withCrc blockOf
     mf0aes20 randomIdOn auth0 readProtected configLocked incrOpen readOpen authLimit keyLockBit exists possible
     numberIf first nibbleOf kept refused answered acknowledged damaged told allowed toldNumber
     readBarred readNumber fastReadNumber readWindow fastRange hidden shownByte shownPages
     auth0Bars randomIdBars ownLockBars pairLockBars keyLockBars configLockBars barred writeNumber freezeRows pairFreezeRows frozen merged keepOf openedOf written
     counterBarred readCntNumber incrCntNumber
-    pageKey keyOf rotated limitReached raised lowered challengeNumber challenged proofFirst proofSecond sameBytes proofNumber proved
+    raised sameBytes
     misfit commandNumber halted commandDone frameNumber notDone decide saidOf countersAfter failedAfter storeAfter tagAfter frame
     imageOf imageRight tagOf storeOf loadNumber load saveNumber save step patched base
     sameSaid sameState storedRight leftRight lineRight playedRight caseRight allRight

@@ -12,8 +12,7 @@ use native.Mathlib.Omega.{arith}
 use lib.Dec.{lit≤}
 use lib.ListN.{length, List·getD-eq-default}
 use Rattle.model.specs.declared.Tag.{Tag}
-use Rattle.model.specs.declared.State.the-variants.{Waiting}
-use Rattle.model.specs.Record.{zeros, exists, counter, highestCounter}
+use Rattle.model.specs.Record.{exists, counter, highestCounter}
 use Rattle.model.specs.Image.{tagOf, load}
 use Rattle.model.specs.Calls.{Bytes, loadedBox}
 use Rattle.model.specs.ImageClaims.{LoadedWaiting}

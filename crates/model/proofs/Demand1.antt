@@ -1,24 +1,17 @@
 -- Demand 1: the claims of specs/Demand1.antt, each under its name in lower case.
 --
 -- Assumes nothing.
-use mathlib.Core.Path.{_≡_, refl, sym, subst, ap, _∙_}
+use mathlib.Core.Path.{_≡_, refl, sym, subst, _∙_}
 use mathlib.Core.List.{List}
 use mathlib.Core.Bool.{Bool, true, false, not, _&&_, _||_, cond}
 use mathlib.Core.Logic.{_⊎_, inl, inr}
-use Prim.Native.Nat.{ℕ, zero, suc, _+_, _≤_}
+use Prim.Native.Nat.{ℕ, _+_, _≤_}
 use native.Mathlib.Omega.{arith}
 use borrow.Author.Tests.{ne-eqb}
 use lib.Dec.{ltb, eqb, lit≤}
-use lib.ListN.{length, getD}
+use lib.ListN.{length}
 use Rattle.model.specs.declared.Tag.{Tag}
-use Rattle.model.specs.declared.State.{State}
 use Rattle.model.specs.declared.Map.{Map}
-use Rattle.model.specs.declared.Command.{Command}
-use Rattle.model.specs.declared.Command.the-variants.{Read, FastRead, Write, ReadCnt, IncrCnt, Authenticate, Proof, Halt}
-use Rattle.model.specs.declared.Told.{Told}
-use Rattle.model.specs.declared.Told.the-variants.{Known, Nothing}
-use Rattle.model.specs.declared.Barred.{Barred}
-use Rattle.model.specs.declared.Barred.the-variants.{Open, Auth0, RandomId, OwnLock, PairLock, KeyLock, ConfigLock}
 use Rattle.model.specs.declared.Effect.{Effect}
 use Rattle.model.specs.declared.Effect.the-variants.{Keep, Failed}
 use Rattle.model.specs.Map.{mf0aes20, storeSize}
@@ -26,12 +19,8 @@ use Rattle.model.specs.Settings.{authLimit}
 use Rattle.model.specs.Record as record′
 use Rattle.model.specs.Record.{possible}
 use Rattle.model.specs.Numbers.{numberIf, first, kept, refused}
-use Rattle.model.specs.Telling.{told, toldNumber}
-use Rattle.model.specs.Reading.{readNumber, fastReadNumber}
-use Rattle.model.specs.Writing.{barredNumber, writeNumber}
-use Rattle.model.specs.Counters.{readCntNumber, incrCntNumber}
-use Rattle.model.specs.Authentication.{raised, challengeNumber, proofNumber}
-use Rattle.model.specs.Frame.{commandNumber, toldCommandNumber, frameNumber, notDone, decide, saidOf, countersAfter, failedAfter, storeAfter, tagAfter, outcome, frame}
+use Rattle.model.specs.Authentication.{raised}
+use Rattle.model.specs.Frame.{frameNumber, decide, saidOf, countersAfter, failedAfter, storeAfter, tagAfter, outcome, frame}
 use Rattle.model.specs.Image.{imageSize, imageRight, loadNumber, load, saveNumber, save}
 use Rattle.model.specs.Calls.{storedOf, step}
 use Rattle.model.specs.Demand1.{NumberInTable, Ended, RefusalEnds, Unchanged, KeepsAll, PowerKeepsStored, SelectKeepsStored, LoadRefused, SaveRefused}

@@ -6,29 +6,23 @@
 --   forgets-valid        damage is forgotten from every valid box
 --
 -- Assumes nothing.
-use mathlib.Core.Path.{_≡_, refl, sym, subst, ap, _∙_}
+use mathlib.Core.Path.{_≡_, refl, sym, ap, _∙_}
 use mathlib.Core.List.{List}
-use mathlib.Core.Bool.{Bool, true, false, not, _&&_, cond, true≢false}
-use mathlib.Core.Logic.{inl, inr}
-use Prim.Native.Nat.{ℕ, _+_}
-use native.Mathlib.Decide.{ℕ-discrete}
-use native.Mathlib.Omega.{arith}
-use borrow.Author.Tests.{eqb-true, ne-eqb}
-use lib.Dec.{eqb}
-use Rattle.forget.specs.Machine.{Given, Every}
+use mathlib.Core.Bool.{true, false, true≢false}
+use mathlib.Core.Logic.{inl}
+use Prim.Native.Nat.{ℕ}
+use borrow.Author.Tests.{ne-eqb}
+use Rattle.forget.specs.Machine.{Every}
 use Rattle.forget.specs.Claim.{Forgets, Ignored, Laws}
 use Rattle.forget.proofs.Forgets.{forgets-always}
 use Rattle.model.specs.declared.Tag.{Tag}
-use Rattle.model.specs.declared.State.{State}
 use Rattle.model.specs.declared.State.the-variants.{Waiting, Active}
 use Rattle.model.specs.Map.{mf0aes20}
-use Rattle.model.specs.Settings.{authLimit}
 use Rattle.model.specs.Record as record′
 use Rattle.model.specs.Record.{isWaiting}
-use Rattle.model.specs.Frame.{Said, silence, frameNumber, decide, Outcome, frame}
+use Rattle.model.specs.Frame.{silence, Outcome, frame}
 use Rattle.model.specs.Calls as calls
 use Rattle.model.specs.Calls.{Box, Call, power, select, Stored, storedOf, boundary, refuses, tagMachine, Fit, step}
-use Rattle.model.specs.Demand1.{Ended, Unchanged}
 use Rattle.model.specs.Demand3.{rebuilt, WakesPinned, NothingLeftOut}
 use Rattle.model.proofs.Demand1.{keeps-all}
 use Rattle.model.proofs.Carried.{waiting-one}

@@ -4,6 +4,8 @@
 --   fromLow-lt                             n bytes give a number below 256 to the n
 --   lowFirst-fromLow, fromLow-lowFirst     the two undo each other, for bytes and for a number that fits
 --   number-part, block-part                a number's bytes, and a block, are parts of the list they are read from
+--   join                                   two parts of which the second begins where the first ends
+--   three-elements                         a list of three, by its elements
 --   right, right-back                      imageRight tests what Right lists
 --   bounded                                the counts of a possible record are within their bounds
 --   counter-le                             three bytes give at most FFFFFFh
@@ -95,10 +97,10 @@ one : (l : List ℕ) (n b : ℕ) → n < length l → getD l n 0 ≡ b → b ∷
 one l n b h e = rw (drop-cons l n 0 h, e)
 
 -- two parts of which the second begins where the first ends
-join : (l x y : List ℕ) (n k : ℕ) → x ≡ take n l → y ≡ take k (drop n l) → x ++ y ≡ take (n + k) l
+pub join : (l x y : List ℕ) (n k : ℕ) → x ≡ take n l → y ≡ take k (drop n l) → x ++ y ≡ take (n + k) l
 join l x y n k p q = rw (p, q) (sym (take-add n k l))
 
-three-elements : (l : List ℕ) → length l ≡ 3 → getD l 0 0 ∷ getD l 1 0 ∷ getD l 2 0 ∷ [] ≡ l
+pub three-elements : (l : List ℕ) → length l ≡ 3 → getD l 0 0 ∷ getD l 1 0 ∷ getD l 2 0 ∷ [] ≡ l
 three-elements l e =
     join l _ _ 2 1 (join l _ _ 1 1 (one l 0 _ (omega arith) refl) (one l 1 _ (omega arith) refl)) (one l 2 _ (omega arith) refl)
     ∙ take-all 3 l (omega arith)

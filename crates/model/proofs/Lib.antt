@@ -17,5 +17,3 @@ pub mod CallClaims
 pub mod Stages
 pub mod Ruling
 pub mod Cases
-pub mod Struck
-pub mod Samples

@@ -26,7 +26,7 @@ use Rattle.model.specs.Authentication.{challenged, loggedIn, proved}
 use Rattle.model.specs.Frame.{halted, commandDone, tagAfter, frame}
 use Rattle.model.specs.Calls as calls
 use Rattle.model.specs.Calls.{Box, Call, power, select, tagMachine, Fit, step}
-use Rattle.model.specs.FieldClaims.{Session, asked, answers, carriedOn, followed, sessionAfter, Holds}
+use Rattle.model.specs.FieldClaims.{Session, answers, carriedOn, followed, sessionAfter, Holds}
 use Rattle.model.proofs.Valid.{Valid}
 use Rattle.model.proofs.Sound.{valid-step}
 use Rattle.model.proofs.Telling.{told-code, Answered, done, refused, ignored, answered-so}

@@ -1,7 +1,6 @@
 -- A frame that is not answered 10: what number 10's row asks holds.
 --
---   fits-store       the store has its size
---   fits-room        so has the reply buffer
+--   fits-room        the reply buffer has its size
 --   fits-random      there are 16 random bytes
 --   fits-possible    the record is one that a tag can have
 --
@@ -37,9 +36,6 @@ module _ (m : Map) (tag : Tag) (s random : List ℕ) (room : ℕ) (fits : misfit
   none : size || short || few || odd ≡ false
   unfolding misfit
   none = fits
-
-  pub fits-store : length s ≡ storeSize m
-  fits-store = eqb-true _ _ (not-false _ (neither-left size short (neither-left (size || short) few (neither-left _ odd none))))
 
   pub fits-room : replySize m ≤ room
   fits-room = ltb-false _ _ (neither-right size short (neither-left (size || short) few (neither-left _ odd none)))

@@ -32,7 +32,7 @@ use Rattle.model.specs.Telling.{told, allowed, toldNumber}
 use Rattle.model.specs.Authentication.{limitReached, loggedIn, pageKey, keyOf, rotated, sameBytes, proofFirst, proofSecond, proofNumber, proved}
 use Rattle.model.specs.Frame.{bytes, commandNumber, commandDone, frameNumber, saidOf, frame, tagAfter}
 use Rattle.model.specs.Calls.{Bytes}
-use Rattle.model.specs.CallClaims.{Asked, RightProof, Proved, ProofExact}
+use Rattle.model.specs.CallClaims.{Asked, RightProof, ProofExact}
 use Rattle.model.proofs.Numbers.{decide-number, decide-done}
 use Rattle.model.proofs.Carried.{numberIf-zero}
 use Rattle.model.proofs.Sound.{zeros-block}

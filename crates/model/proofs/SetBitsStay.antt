@@ -16,7 +16,7 @@ use native.Mathlib.Omega.{arith}
 use borrow.Author.Tests.{le-ltb, le-leb, ne-eqb}
 use lib.Bits.{bitAnd}
 use lib.Dec.{eqb, lit<}
-use lib.ListN.{getD, set}
+use lib.ListN.{getD}
 use Rattle.bits.specs.Bits.{bitOf}
 use Rattle.bits.proofs.Bit.{bit-lt, bit-and}
 use Rattle.bits.proofs.OneWay.{set-bit-never-cleared}

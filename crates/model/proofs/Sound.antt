@@ -9,45 +9,41 @@
 --   valid-end         a list of calls that fit ends in a valid box
 --
 -- Assumes nothing.
-use mathlib.Core.Path.{_≡_, refl, sym, subst, ap, _∙_}
+use mathlib.Core.Path.{_≡_, refl, sym, subst}
 use mathlib.Core.List.{List, [], _∷_}
 use mathlib.Core.Bool.{Bool, true, false, not, _&&_, _||_, cond}
-use Prim.Native.Nat.{ℕ, zero, suc, _+_, _-_, _*_, _%_, _≤_, _<_}
+use Prim.Native.Nat.{ℕ, zero, suc, _+_, _-_, _*_, _≤_, _<_}
 use native.Mathlib.Nat.{lt-of-le-of-lt}
 use native.Mathlib.Decide.{ℕ-discrete}
 use native.Mathlib.Omega.{arith}
 use borrow.Author.Tests.{ltb-false, leb-false, eqb-true, le-leb, le-ltb, eq-eqb}
-use lib.Bits.{bitAnd, and-le-l}
-use lib.Dec.{ltb, leb, eqb, lit<}
+use lib.Bits.{and-le-l}
+use lib.Dec.{leb, eqb, lit<}
 use lib.ListN.{length, getD}
 use Rattle.bits.proofs.OneWay.{oneWay-byte}
 use Rattle.fips197.specs.State.{IsBlock}
 use Rattle.fips197.proofs.State.{state-block}
-use Rattle.forget.specs.Machine.{Given, Every, end}
+use Rattle.forget.specs.Machine.{Every, end}
 use Rattle.model.specs.declared.Map.{Map}
 use Rattle.model.specs.declared.Tag.{Tag}
-use Rattle.model.specs.declared.State.{State}
-use Rattle.model.specs.declared.State.the-variants.{Waiting, Active, Challenged}
-use Rattle.model.specs.declared.Quad.{Quad}
+use Rattle.model.specs.declared.State.the-variants.{Challenged}
 use Rattle.model.specs.declared.Command.{Command}
 use Rattle.model.specs.declared.Command.the-variants.{Read, FastRead, Write, ReadCnt, IncrCnt, Authenticate, Proof, Halt}
-use Rattle.model.specs.declared.Effect.{Effect}
-use Rattle.model.specs.declared.Effect.the-variants.{Keep, Page, Counter, Failed}
-use Rattle.model.specs.declared.Decision.{Decision}
-use Rattle.model.specs.Map.{mf0aes20, storeSize, replySize, byteOf}
-use Rattle.model.specs.Settings.{authLimit, incrOpen}
+use Rattle.model.specs.declared.Effect.the-variants.{Keep, Failed}
+use Rattle.model.specs.Map.{mf0aes20, replySize, byteOf}
+use Rattle.model.specs.Settings.{authLimit}
 use Rattle.model.specs.Record as record′
 use Rattle.model.specs.Record.{zeros, exists, keyNumber, counter, highestCounter, highestFailed, possible}
-use Rattle.model.specs.Numbers.{numberIf, kept, refused, answered, acknowledged}
+use Rattle.model.specs.Numbers.{kept, refused, answered, acknowledged}
 use Rattle.model.specs.Writing.{merged, keepOf, openedOf, written}
-use Rattle.model.specs.Counters.{increment, counterBarred, incrCntNumber}
+use Rattle.model.specs.Counters.{increment, incrCntNumber}
 use Rattle.model.specs.Authentication.{limitReached, raised, lowered, challengeNumber, challenged, loggedIn, proved}
-use Rattle.model.specs.Frame.{misfit, data4, commandNumber, halted, commandDone, frameNumber, notDone, decide, outcome, frame}
+use Rattle.model.specs.Frame.{misfit, data4, commandNumber, halted, commandDone, frameNumber, notDone, decide, frame}
 use Rattle.model.specs.Calls as calls
 use Rattle.model.specs.Calls.{Box, Call, power, select, tagMachine, Bytes, Fit, step}
 use Rattle.model.proofs.Numbers.{decide-not}
-use Rattle.model.proofs.Carried.{first-zero, numberIf-zero, Carried, carried, eight-open}
-use Rattle.model.proofs.Valid.{Valid, EffectSound, Sound, after, valid-after}
+use Rattle.model.proofs.Carried.{first-zero, numberIf-zero, carried, eight-open}
+use Rattle.model.proofs.Valid.{Valid, EffectSound, Sound, valid-after}
 
 pub zeros-block : IsBlock zeros
 zeros-block = state-block (λ r c. 0) (λ r c hr hc. lit< tt)

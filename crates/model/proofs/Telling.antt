@@ -5,7 +5,7 @@
 --   answered-so      one of the three
 --
 -- Assumes nothing.
-use mathlib.Core.Path.{_≡_, refl, sym, subst, ap, _∙_}
+use mathlib.Core.Path.{_≡_, refl, sym, subst, _∙_}
 use mathlib.Core.List.{List}
 use mathlib.Core.Bool.{Bool, true, false, cond, true≢false}
 use mathlib.Core.Logic.{inl}
@@ -13,8 +13,6 @@ use Prim.Native.Nat.{ℕ}
 use native.Mathlib.Decide.{ℕ-discrete}
 use borrow.Author.Tests.{eqb-true}
 use lib.Dec.{eqb}
-use lib.ListN.{getD}
-use Rattle.model.specs.declared.Tag.{Tag}
 use Rattle.model.specs.declared.Command.{Command}
 use Rattle.model.specs.declared.Command.the-variants.{Read, FastRead, Write, ReadCnt, IncrCnt, Authenticate, Proof, Halt}
 use Rattle.model.specs.declared.Told.{Told}
@@ -22,7 +20,7 @@ use Rattle.model.specs.declared.Told.the-variants.{Known, Nothing}
 use Rattle.model.specs.Map.{mf0aes20}
 use Rattle.model.specs.Record.{isWaiting}
 use Rattle.model.specs.Telling.{codeOf, told}
-use Rattle.model.specs.Frame.{frameNumber, decide, frame}
+use Rattle.model.specs.Frame.{frameNumber, frame}
 use Rattle.model.specs.Calls as calls
 use Rattle.model.specs.Calls.{Box, Fit}
 use Rattle.model.specs.Demand1.{Ended, Unchanged}

@@ -7,32 +7,20 @@
 -- That a frame that fits comes to a sound decision is in Sound.antt.
 --
 -- Assumes nothing.
-use mathlib.Core.Path.{_≡_, refl, sym, subst, ap, _∙_}
+use mathlib.Core.Path.{_≡_, refl, ap, _∙_}
 use mathlib.Core.List.{List, [], _∷_}
-use mathlib.Core.Bool.{Bool, true, false, not, _&&_, _||_, cond}
-use mathlib.Core.Logic.{_⊎_, inl, inr}
-use Prim.Native.Nat.{ℕ, zero, suc, _+_, _-_, _*_, _%_, _≤_, _<_}
-use native.Mathlib.Nat.{lt-of-le-of-lt}
-use native.Mathlib.Decide.{ℕ-discrete}
-use native.Mathlib.Omega.{arith}
-use borrow.Author.Tests.{leb-true, ltb-false, leb-false, eqb-true, eqb-false, le-leb, eq-eqb, ne-eqb}
-use lib.Bits.{bitAnd, and-le-l}
-use lib.Dec.{ltb, leb, eqb, lit<, lit≤}
+use mathlib.Core.Bool.{true}
+use Prim.Native.Nat.{ℕ, zero, suc, _-_, _*_, _≤_, _<_}
 use lib.ListN.{length, getD, set, length-set}
 use lib.Seq.{sets, length-sets}
-use Rattle.bits.proofs.OneWay.{oneWay-byte}
 use Rattle.fips197.specs.State.{IsBlock}
-use Rattle.model.specs.declared.Map.{Map}
 use Rattle.model.specs.declared.Tag.{Tag}
-use Rattle.model.specs.declared.State.{State}
-use Rattle.model.specs.declared.State.the-variants.{Waiting, Active, Traceable, Authenticated, Challenged, Unknown}
-use Rattle.model.specs.declared.Quad.{Quad}
 use Rattle.model.specs.declared.Effect.{Effect}
 use Rattle.model.specs.declared.Effect.the-variants.{Keep, Page, Counter, Failed}
 use Rattle.model.specs.declared.Decision.{Decision}
 use Rattle.model.specs.Map.{mf0aes20, storeSize}
 use Rattle.model.specs.Record.{exists, counter, highestCounter, highestFailed}
-use Rattle.model.specs.Frame.{storeAfter, countersAfter, failedAfter, tagAfter, outcome}
+use Rattle.model.specs.Frame.{storeAfter, countersAfter, failedAfter, tagAfter}
 use Rattle.model.specs.Calls.{Box, Bytes}
 
 pub record Valid (b : Box) : Type 0 where

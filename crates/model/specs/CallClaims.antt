@@ -1,18 +1,19 @@
--- Claims about single frames, beside demand 1.
+-- Claims about single frames, beside demand 1, and about the keys.
 --
 --     ReadCntLowFirst     READ_CNT's three bytes are the counter, low byte first
 --     ProofExact          part 2 is answered 0 exactly for the right ciphertext, and what it then replies
 --     RandomIdHides       with Random ID on in ACTIVE, no reply to READ or FAST_READ tells the first nine bytes
 --     KeysHidden          no reply to READ or FAST_READ tells a byte of the key pages, in any state
 --     ChallengeDropped    challenge bytes are zero outside CHALLENGED after any number but 1 and 10
+--     KeyOrder            the keys that 009 8.6.3's WRITEs leave
 --
 -- proofs/CallClaims.antt proves each. Assumes nothing.
 use mathlib.Core.Path.{_≡_}
-use mathlib.Core.List.{List, [], _∷_}
+use mathlib.Core.List.{List, [], _∷_, _++_}
 use mathlib.Core.Bool.{true, false}
 use mathlib.Core.Logic.{_⊎_}
 use Prim.Native.Nat.{ℕ, _+_, _*_, _≤_, _<_}
-use lib.ListN.{length, getD, drop}
+use lib.ListN.{length, getD, drop, replicate}
 use Rattle.crc.specs.CrcA.{withCrc}
 use Rattle.fips197.specs.State.{IsBlock}
 use Rattle.fips197.specs.Cbc.{blockOf, cbcEncipher}
@@ -26,6 +27,7 @@ use Rattle.model.specs.Telling.{damaged, codeOf}
 use Rattle.model.specs.Authentication.{keyOf, rotated, limitReached, loggedIn}
 use Rattle.model.specs.Frame.{bytes, misfit, Outcome, frame}
 use Rattle.model.specs.Calls.{Bytes}
+use Rattle.model.specs.CaseImages.{hex}
 
 -- READ_CNT answered 0
 abbrev pub ReadCntLowFirst : Type 0
@@ -102,3 +104,9 @@ abbrev pub ChallengeDropped : Type 0
 ChallengeDropped =
     (tag : Tag) (s f random : List ℕ) (room : ℕ) → let o = frame tag s f random room in
     (o .number ≡ 1 → ⊥) → (o .number ≡ 10 → ⊥) → isChallenged (o .tag .state) ≡ false → o .tag .challenge ≡ zeros
+
+-- 0Fh, 0Eh .. 00h in pages 30h to 33h are DataProtKey 00h, 01h .. 0Fh, and in pages 34h to 37h they are that UIDRetrKey
+abbrev pub KeyOrder : Type 0
+KeyOrder =
+    (tag : Tag) → let k = hex 16 0x0f0e0d0c_0b0a0908_07060504_03020100 in let s = replicate 192 0 ++ k ++ k in
+    (keyOf mf0aes20 tag s 0 ≡ hex 16 0x00010203_04050607_08090a0b_0c0d0e0f) × (keyOf mf0aes20 tag s 1 ≡ hex 16 0x00010203_04050607_08090a0b_0c0d0e0f)

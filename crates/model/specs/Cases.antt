@@ -1,20 +1,18 @@
--- Document 01, "Bench cases": the starred cases, the bench program's example, 009 Table 17 in full, and logins with the keys that 009 8.6.3 writes;
--- one list with one statement.
+-- Document 01, "Bench cases": the starred cases and the bench program's example; one list with one statement.
 --
 --     cases              the list
 --     CasesRight         each of them is right
---     blank              CaseForm.antt's store that an image is loaded into
 --
 -- Every value of a row is written out: bytes of the image, frames and replies with their CRC_A. tools/cases.py works them out from document 01, 009
 -- and FIPS 197, with a CRC_A and an AES of its own, and not from the definition of the tag. A row marked * is a starred case of document 01. What a
--- row says and when it is right is in CaseForm.antt. proofs/Cases.antt proves the statement by computing. The crate cases has more. Assumes nothing.
+-- row says and when it is right is in CaseForm.antt. proofs/Cases.antt proves the statement by computing. The crate cases has more, with 009
+-- Table 17 in full. Assumes nothing.
 use mathlib.Core.List.{List, [], _∷_, _++_}
 use lib.Dec.{T}
-use Rattle.model.specs.declared.State.the-variants.{Waiting, Active, Traceable, Authenticated}
+use Rattle.model.specs.declared.State.the-variants.{Waiting, Active}
 use Rattle.model.specs.Frame.{silence, nibble, bytes}
-use Rattle.model.specs.CaseImages.{hex, page, counter, failed, patched, base}
+use Rattle.model.specs.CaseImages.{hex, page, counter, patched, base}
 use Rattle.model.specs.CaseForm.{Case, allRight, powered, selected, toActive, sentWith, sent, ack}
-pub use Rattle.model.specs.CaseForm.{blank}
 
 -- ---- from here on written by tools/cases.py
 
@@ -166,61 +164,10 @@ benchExample = record {
   state = Waiting;
 }
 
--- 009 Table 17 in full: the login with the key of zeros.
-abbrev pub table17 : Case
-table17 = record {
-  image = patched base (page 0x30 (hex 16 0x00000000_00000000_00000000_00000000) ∷ []);
-  lines =
-      toActive ++ (
-      sentWith (hex 16 0x1ae4174ca173ebbc59165cebe2f20821) (hex 4 0x1a00_4176) 0
-      (bytes (hex 19 0xaf_d5a847b84862ff3874a7f07b8ddf351b_87e7)) ∷
-      sent (hex 35 0xaf_cdf22c5f7a92f0af0155612b9b236ac7_a424bc5238d41ad041b8165b7d99e524_334a) 0
-      (bytes (hex 19 0x00_2c743d6b1e128f8076bd197b76012ce8_6bb3)) ∷ []);
-  changed = [];
-  state = Authenticated;
-}
-
--- 8.6.3's WRITEs of the key 000102..0F as DataProtKey, and a login with it; the count 20 is lowered by 16.
-abbrev pub dataProtKey : Case
-dataProtKey = record {
-  image = patched base (page 0x2a (hex 4 0x0c052800) ∷ failed (hex 2 0x1400) ∷ []);
-  lines =
-      toActive ++ (
-      sent (hex 8 0xa230_0f0e0d0c_00b3) 0 ack ∷
-      sent (hex 8 0xa231_0b0a0908_8d88) 0 ack ∷
-      sent (hex 8 0xa232_07060504_1ac4) 0 ack ∷
-      sent (hex 8 0xa233_03020100_97ff) 0 ack ∷
-      sentWith (hex 16 0x00112233445566778899aabbccddeeff) (hex 4 0x1a00_4176) 0
-      (bytes (hex 19 0xaf_69c4e0d86a7b0430d8cdb78070b4c55a_bd17)) ∷
-      sent (hex 35 0xaf_d9a6bbd6a82ee3538996b6a5380f7471_a9e3884be8e963b25da88f2e4341416e_58ec) 0
-      (bytes (hex 19 0x00_09b1e7e8455112e5d3ebcab3ff8c90dc_df12)) ∷ []);
-  changed = page 0x30 (hex 16 0x0f0e0d0c_0b0a0908_07060504_03020100) ∷ failed (hex 2 0x0400) ∷ [];
-  state = Authenticated;
-}
-
--- The same as UIDRetrKey, with Random ID on: TRACEABLE shows the serial number. The count 5 is set to 0.
-abbrev pub uidRetrKey : Case
-uidRetrKey = record {
-  image = patched base (page 0x2a (hex 4 0x0c052800) ∷ page 0x29 (hex 4 0x0100003c) ∷ failed (hex 2 0x0500) ∷ []);
-  lines =
-      toActive ++ (
-      sent (hex 8 0xa234_0f0e0d0c_109e) 0 ack ∷
-      sent (hex 8 0xa235_0b0a0908_9da5) 0 ack ∷
-      sent (hex 8 0xa236_07060504_0ae9) 0 ack ∷
-      sent (hex 8 0xa237_03020100_87d2) 0 ack ∷
-      sentWith (hex 16 0x00112233445566778899aabbccddeeff) (hex 4 0x1a01_c867) 0
-      (bytes (hex 19 0xaf_69c4e0d86a7b0430d8cdb78070b4c55a_bd17)) ∷
-      sent (hex 35 0xaf_d9a6bbd6a82ee3538996b6a5380f7471_a9e3884be8e963b25da88f2e4341416e_58ec) 0
-      (bytes (hex 19 0x00_09b1e7e8455112e5d3ebcab3ff8c90dc_df12)) ∷
-      sent (hex 5 0x3a0002_d273) 0 (bytes (hex 14 0x04512cf1_5a93c71e_10480000_ee9a)) ∷ []);
-  changed = page 0x34 (hex 16 0x0f0e0d0c_0b0a0908_07060504_03020100) ∷ failed (hex 2 0x0000) ∷ [];
-  state = Traceable;
-}
-
 unfoldable pub cases : List Case
 cases =
     emptyFrame ∷ oneByteWaiting ∷ read38 ∷ read39 ∷ fastReadOrder ∷ fastReadLast ∷ write01 ∷ otpSet ∷ frozenBit ∷ lockAndBlock ∷
-    lockedPage ∷ counterToHighest ∷ counterPastHighest ∷ protectedPage ∷ belowAuth0 ∷ benchExample ∷ table17 ∷ dataProtKey ∷ uidRetrKey ∷ []
+    lockedPage ∷ counterToHighest ∷ counterPastHighest ∷ protectedPage ∷ belowAuth0 ∷ benchExample ∷ []
 
 abbrev pub CasesRight : Type 0
 CasesRight = T (allRight cases)

@@ -23,7 +23,7 @@ use Rattle.model.specs.Settings.{authLimit}
 use Rattle.model.specs.Record.{zeros, zeroTag}
 use Rattle.model.specs.Numbers.{nibbleOf}
 use Rattle.model.specs.Frame.{Said, silence, nibble, Outcome, frame, laidOver}
-use Rattle.model.specs.Image.{Loaded, load, Saved, save}
+use Rattle.model.specs.Image.{load, save}
 use Rattle.model.specs.Calls.{Box, power, select, storedOf, step}
 
 abbrev pub NumberInTable : Type 0

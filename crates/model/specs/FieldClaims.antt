@@ -8,7 +8,7 @@
 -- proofs/CountersAddUp.antt, SetBitsStay.antt and Logins.antt have the laws of single calls and of lists, proofs/Claims.antt the claims. Assumes nothing.
 use mathlib.Core.Path.{_≡_}
 use mathlib.Core.List.{List, [], _∷_}
-use mathlib.Core.Bool.{Bool, true, false, _&&_, _||_, cond}
+use mathlib.Core.Bool.{_&&_, _||_, cond}
 use Prim.Native.Nat.{ℕ, zero, suc, _+_, _*_, _≤_}
 use lib.Dec.{ltb, leb, eqb}
 use lib.ListN.{getD}

@@ -19,5 +19,3 @@ pub mod ImageClaims
 pub mod CaseImages
 pub mod CaseForm
 pub mod Cases
-pub mod Struck
-pub mod Samples

@@ -8,12 +8,10 @@
 --     answered tag y      number 0 with the data y             acknowledged tag e    number 0 with ACK and the effect e
 --
 -- Assumes nothing.
-use mathlib.Core.List.{List}
 use mathlib.Core.Bool.{Bool, true, false, _||_, cond}
 use Prim.Native.Nat.{ℕ, zero, suc}
 use lib.Dec.{eqb}
 use Rattle.model.specs.declared.Tag.{Tag}
-use Rattle.model.specs.declared.State.{State}
 use Rattle.model.specs.declared.State.the-variants.{Waiting}
 use Rattle.model.specs.declared.Effect.{Effect}
 use Rattle.model.specs.declared.Effect.the-variants.{Keep}

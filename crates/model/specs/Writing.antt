@@ -12,7 +12,7 @@
 -- Every one-way bit is an instance of `oneWay`. Assumes nothing.
 use mathlib.Core.List.{List, [], _∷_}
 use mathlib.Core.Bool.{Bool, not, _&&_, _||_, cond, Bool·beq}
-use Prim.Native.Nat.{ℕ, _+_, _-_, _*_, _/_, _%_}
+use Prim.Native.Nat.{ℕ, _+_, _-_, _*_, _/_}
 use lib.Bits.{bitAnd, bitOr}
 use lib.Dec.{ltb, leb, eqb}
 use Rattle.bits.specs.Bits.{oneWay}

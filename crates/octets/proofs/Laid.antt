@@ -4,6 +4,7 @@
 --   sets-append    two runs of bytes, one laid behind the other
 --   sets-own       a list's own first bytes laid over its start change nothing
 --   take-sets      what was laid over the start stands there
+--   sets-all       bytes laid over a whole list take its place
 --   sets-over      the same bytes laid again, with more behind them, are laid once
 --
 -- Assumes nothing.
@@ -13,7 +14,7 @@ use Prim.Native.Nat.{ℕ, zero, suc, _+_, _≤_, _<_}
 use native.Mathlib.Nat.{add-zero, zero-add, add-suc, suc-add}
 use native.Mathlib.Omega.{arith}
 use lib.ListN.{length, getD, take, drop, set, take-append-drop}
-use lib.Seq.{sets, sets-eq, length-sets, take-at, length-take-le}
+use lib.Seq.{sets, sets-eq, length-sets, take-all, take-at, length-take-le}
 
 pub sets-suc : (l : List ℕ) (f : ℕ) (bs : List ℕ) (i : ℕ) → i < length bs
     → sets l f (take (suc i) bs) ≡ set (sets l f (take i bs)) (f + i) (getD bs i 0)
@@ -40,6 +41,10 @@ pub sets-own : (l : List ℕ) (n : ℕ) → n ≤ length l → sets l 0 (take n 
 sets-own l n h =
     let e = length-take-le n l h in
     sets-start l (take n l) (omega arith) ∙ ap (λ (k : ℕ). take n l ++ drop k l) e ∙ take-append-drop n l
+
+pub sets-all : (l bs : List ℕ) → length bs ≡ length l → sets l 0 bs ≡ bs
+sets-all l bs e =
+    sym (take-all (length bs) (sets l 0 bs) (omega (arith, length-sets l 0 bs))) ∙ take-sets l bs (omega arith)
 
 pub sets-over : (l bs cs : List ℕ) → length bs ≤ length l → sets (sets l 0 bs) 0 (bs ++ cs) ≡ sets l 0 (bs ++ cs)
 sets-over l bs cs h =

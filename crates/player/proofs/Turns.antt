@@ -16,14 +16,14 @@ use Rattle.octets.proofs.Laid.{take-sets}
 use Rattle.crc.specs.CrcA.{withCrc}
 use Rattle.model.specs.declared.Tag.{Tag}
 use Rattle.model.specs.Map.{mf0aes20, replySize}
-use Rattle.model.specs.Frame.{Said, silence, nibble, bytes, Outcome, frame, replyOf, laidOver}
+use Rattle.model.specs.Frame.{Said, silence, nibble, bytes, frame, replyOf, laidOver}
 use Rattle.model.specs.Calls.{step}
 use Rattle.events.specs.declared.Answer.{Answer}
 use Rattle.runs.proofs.Heard.{inBuffer, said-fits}
 use Rattle.script.specs.declared.line.Line.{Line}
 use Rattle.script.specs.declared.line.Line.the-variants.{Power, Select, Frame, Bad}
 use Rattle.script.specs.Line.{only, frameRight, lineOf, frameBytes}
-use Rattle.script.specs.Answer.{answerText}
+use Rattle.answers.specs.Answer.{answerText}
 use Rattle.player.specs.Play.{dataOf, heardData, randomOf, Turn, turnOf}
 use Rattle.script.proofs.Frames.{frame-long}
 

@@ -7,7 +7,7 @@
 --     Turn, turn            the text and the box, and whether the line is bad
 --
 -- count is the number of the line, from 1. A bad line has no text here: the program writes it and stops. Assumes nothing.
-use mathlib.Core.List.{List, [], _∷_}
+use mathlib.Core.List.{List, []}
 use mathlib.Core.Bool.{Bool, true, false, cond}
 use Prim.Native.Nat.{ℕ, _+_, _-_, _%_}
 use lib.Dec.{ltb}
@@ -22,7 +22,7 @@ use Rattle.model.specs.Calls.{Box, Call, step}
 use Rattle.script.specs.declared.line.Line.{Line}
 use Rattle.script.specs.declared.line.Line.the-variants.{Power, Select, Frame, Bad}
 use Rattle.script.specs.Line.{lineOf, frameBytes}
-use Rattle.script.specs.Answer.{answerText}
+use Rattle.answers.specs.Answer.{answerText}
 
 abbrev pub dataOf : Said → List ℕ
 dataOf silence = []

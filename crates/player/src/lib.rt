@@ -1,8 +1,8 @@
 // A line of a script, played.
+use answers::answer::answer;
 use events::Answer;
 use model::Reply;
 use model::Tag;
-use script::answer::answer;
 use script::line;
 use script::line::Line;
 ghost use mathlib.Core.Path.{_≡_};
@@ -12,7 +12,7 @@ ghost use Prim.Native.Nat.{_-_, _≤_};
 ghost use lib.ListN.{length, take};
 ghost use Rattle.crc.specs.CrcA.{withCrc};
 ghost use Rattle.script.specs.Line.{frameBytes};
-ghost use Rattle.script.specs.Answer.{answerText, WrittenAt};
+ghost use Rattle.answers.specs.Answer.{answerText, WrittenAt};
 ghost use Rattle.script.specs.declared.line.Line.the-variants.{Frame};
 ghost use Rattle.player.specs.Play.{nextCount, randomOf, heardData, turnOf, turn};
 
@@ -53,7 +53,7 @@ fn frame_of(line: &[u8], n: u8, frame: &mut [u8]) -> usize
     ensures { λ r. ⌜ take r (now (frame .exit)) ≡ withCrc (frameBytes (now (line .entry)) n) ⌝ }
 {
     line::lay_frame(line, n, frame);
-    effect::speaking::seal(frame, n as usize)
+    framing::seal(frame, n as usize)
 }
 
 // The data of a reply of n bytes: all but its CRC_A.

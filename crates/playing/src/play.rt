@@ -3,14 +3,15 @@
 // A text has four parts with `|` between them: a name, the changes of the image that is loaded, lines with `;` between them, and the changes of the
 // image that is saved. A line is a call, in fields with `,` between them: its name; `P` for power, `S` for select, or the digits of a frame; the
 // number it is to answer; the reply; and the random block, which may be left out where the frame uses none.
-use crate::answer;
-use crate::digits;
-use crate::file;
-use crate::parts;
+use comparing::answer;
+use comparing::file;
 use events::Answer;
 use libc::STDOUT_FILENO;
 use model::Reply;
 use model::Tag;
+use reports::digits;
+use reports::parts;
+use text::lines::mark_from;
 ghost use Prim.Native.Nat.{_≤_};
 ghost use lib.ListN.{length};
 
@@ -64,7 +65,7 @@ fn played(name: &[u8], lines: &[u8], tag: Tag, store: &mut [u8]) -> Tag {
     let mut now = tag;
     let mut at = 0;
     while at < lines.len() {
-        let e = parts::end(lines, b';', at);
+        let e = mark_from(lines, b';', at);
         let line = &lines[at..e];
         let mut answer = [answer::UNWRITTEN; answer::SIZE];
         let got = called(now, store, line, &mut answer);

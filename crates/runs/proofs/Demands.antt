@@ -7,7 +7,7 @@
 --   FramesNumbered, FramesRefused, FramesKeep
 --                     demand 1 of `frame`: its numbers; what a refusal leaves; 1 and 10 change nothing
 --
--- Each statement stands above its proof: a statement about contracts can't stand in specs/, which sees none. Assumes nothing.
+-- Stretch, struck out, silence and stored memory are document 01's terms; forget/specs and model/specs/Calls.antt define them. Each statement stands above its proof: a statement about contracts can't stand in specs/, which sees none. Assumes nothing.
 use mathlib.Core.Path.{_≡_, refl, sym, ap, subst, _∙_}
 use mathlib.Core.Logic.{_⊎_}
 use mathlib.Core.List.{List}
@@ -25,8 +25,8 @@ use Rattle.model.specs.Record.{zeroTag}
 use Rattle.model.specs.Numbers.{nibbleOf}
 use Rattle.model.specs.Frame.{silence, Outcome, frame, replyOf, laidOver}
 use Rattle.model.specs.Image.{load}
-use Rattle.model.specs.Demand1.{Ended, Unchanged, Event}
-use Rattle.model.specs.Calls.{Box, Call, Bytes, Fit, step, storedOf, tagMachine, loadedBox}
+use Rattle.model.specs.Demand1.{Ended, Event}
+use Rattle.model.specs.Calls.{Box, Bytes, Fit, storedOf, tagMachine, loadedBox}
 use Rattle.model.proofs.Demand1.{number-in-table, refusal-ends, keeps-all, power-keeps-stored, select-keeps-stored, load-refused, save-refused}
 use Rattle.model.proofs.Image.{load-done}
 use Rattle.model.proofs.Claims.{damage-forgotten}

@@ -1,16 +1,16 @@
--- The reply that a caller has in hand is the reply that the definition says.
+-- The reply that a caller finds is the reply that the definition says.
 --
 --   said-fits     what a frame says fits the reply buffer that the frame was given
 --   heard-said    so the first bytes of the buffer, as many as the answer counts, are those said
 --
 -- Assumes nothing.
-use mathlib.Core.Path.{_≡_, refl, sym, ap, subst, _∙_}
+use mathlib.Core.Path.{_≡_, refl, ap, _∙_}
 use mathlib.Core.Bool.{Bool, true, false, _||_, cond}
-use mathlib.Core.List.{List, []}
+use mathlib.Core.List.{List}
 use Prim.Native.Nat.{ℕ, zero, suc, _+_, _-_, _*_, _≤_}
 use native.Mathlib.Omega.{arith}
 use lib.Dec.{eqb}
-use lib.ListN.{length, getD, take}
+use lib.ListN.{length, getD}
 use Rattle.octets.proofs.Laid.{take-sets}
 use Rattle.crc.specs.CrcA.{withCrc}
 use Rattle.crc.proofs.Laws.{withCrc-length}
@@ -25,14 +25,14 @@ use Rattle.model.specs.declared.Command.{Command}
 use Rattle.model.specs.declared.Command.the-variants.{Read, FastRead, Write, ReadCnt, IncrCnt, Authenticate, Proof, Halt}
 use Rattle.model.specs.Map.{mf0aes20}
 use Rattle.model.specs.Numbers.{kept, refused, answered, acknowledged}
-use Rattle.model.specs.Reading.{readWindow, fastRange, pagesFrom, shownPages}
+use Rattle.model.specs.Reading.{readWindow, fastRange}
 use Rattle.model.specs.Authentication.{challenged, proved}
 use Rattle.model.specs.Frame.{commandDone, halted, frameNumber, notDone, decide, Said, silence, nibble, bytes, saidOf, frame, replyOf, laidOver}
 use Rattle.model.proofs.Numbers.{decide-not}
 use Rattle.model.proofs.Carried.{carried}
-use Rattle.effect.specs.Speaking.{saidSize}
-use Rattle.effect.proofs.Shown.{shown-length}
-use Rattle.effect.proofs.Room.{decided-fits}
+use Rattle.reply.specs.Speaking.{saidSize}
+use Rattle.shown.proofs.Shown.{shown-length}
+use Rattle.reply.proofs.Room.{ours-fits}
 use Rattle.runs.specs.Heard.{heard}
 
 -- the bytes of a reply, in the reply buffer
@@ -81,14 +81,10 @@ module _ (m : Map) (tag : Tag) (s f random : List ℕ) (room : ℕ) where
       rw (decide-not m tag s f random room (λ z. omega arith))
       (not-size (eqb (frameNumber m tag s f random room) 1 || eqb (frameNumber m tag s f random room) 10) _ _)
 
-five : 5 ≤ mf0aes20 .pages
-unfolding mf0aes20
-five = omega arith
-
 pub said-fits : (tag : Tag) (s f random : List ℕ) (room : ℕ) → inBuffer (frame tag s f random room .said) ≤ room
 unfolding frame
 said-fits tag s f random room =
-    omega (arith, by-number mf0aes20 tag s f random room (frameNumber mf0aes20 tag s f random room) refl, decided-fits mf0aes20 tag s f random room five)
+    omega (arith, by-number mf0aes20 tag s f random room (frameNumber mf0aes20 tag s f random room) refl, ours-fits tag s f random room)
 
 pub heard-said : (buffer : List ℕ) (x : Said) → inBuffer x ≤ length buffer → heard (replyOf x) (laidOver buffer x) ≡ x
 heard-said buffer silence h = refl

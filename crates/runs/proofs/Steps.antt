@@ -9,7 +9,7 @@
 --                 there is a result that meets the contract, for every call at every record and store, for every list of calls in turn, and for a loading
 --
 -- Assumes nothing.
-use mathlib.Core.Path.{_≡_, refl, sym, ap, subst, _∙_}
+use mathlib.Core.Path.{_≡_, refl, ap, _∙_}
 use mathlib.Core.List.{List, [], _∷_}
 use Prim.Native.Nat.{ℕ, _≤_}
 use borrow.Author.Tests.{le-ltb}
@@ -18,7 +18,6 @@ use contract.Lifetimes.{Lfts}
 use denote.Ref.{now}
 use Rattle.forget.specs.Machine.{Given, Entry, entry, log, end}
 use Rattle.model.specs.declared.Tag.{Tag}
-use Rattle.model.specs.declared.Reply.{Reply}
 use Rattle.model.specs.Map.{mf0aes20, replySize}
 use Rattle.model.specs.Frame.{misfit, frameNumber, decide, Said, Outcome, frame, replyOf, laidOver}
 use Rattle.model.specs.Image.{load}

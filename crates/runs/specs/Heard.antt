@@ -1,4 +1,4 @@
--- The reply that a caller has in hand: the answer's reply, and the reply buffer after the call.
+-- The reply that a caller finds: the answer's reply, and the reply buffer after the call.
 --
 --     heard r buffer     the reply with its bytes, which are the first in the buffer
 --

@@ -5,14 +5,15 @@
 --
 -- Assumes nothing.
 use mathlib.Core.Path.{_≡_}
-use mathlib.Core.List.{List, [], _∷_}
+use mathlib.Core.List.{List}
 use mathlib.Core.Bool.{Bool, _&&_, and-true, and-assoc}
 use Prim.Native.Nat.{ℕ, suc, _+_, _≤_, _<_}
 use native.Mathlib.Numerals.{add-one}
 use lib.Dec.{ltb}
 use lib.ListN.{length, getD, drop, drop-of-length-le}
 use lib.Seq.{drop-cons}
-use Rattle.script.specs.Line.{digitOf, allDigits}
+use Rattle.text.specs.Digits.{digitOf}
+use Rattle.script.specs.Line.{allDigits}
 
 pub all-more : (l : List ℕ) (i : ℕ) (right : Bool) → i < length l
     → (right && ltb (digitOf (getD l i 0)) 16) && allDigits (drop (i + 1) l) ≡ right && allDigits (drop i l)

@@ -1,6 +1,5 @@
 -- What a line of a script asks: `P`, `S`, or `F` with a space and 1 to 62 bytes in lower hex.
 --
---     digitOf b             the value of a lower-case hexadecimal digit, and 16 for every other byte
 --     lineOf l              a power-on, a selection, a frame of so many bytes, or a bad line
 --     frameBytes l n        the first n bytes of the frame that the line asks for, without CRC_A
 --
@@ -10,13 +9,10 @@ use mathlib.Core.Bool.{Bool, true, _&&_, cond}
 use Prim.Native.Nat.{ℕ, _+_, _-_, _*_, _/_, _%_}
 use lib.Dec.{ltb, leb, eqb}
 use lib.ListN.{length, getD, drop}
-use Rattle.script.specs.Listed.{listed}
+use Rattle.text.specs.Listed.{listed}
+use Rattle.text.specs.Digits.{digitOf}
 use Rattle.script.specs.declared.line.Line.{Line}
 use Rattle.script.specs.declared.line.Line.the-variants.{Power, Select, Frame, Bad}
-
--- ASCII: 0 to 9 are 48 to 57, a to f are 97 to 102
-unfoldable pub digitOf : ℕ → ℕ
-digitOf b = cond (leb 48 b && leb b 57) (b - 48) (cond (leb 97 b && leb b 102) (b - 97 + 10) 16)
 
 abbrev pub allDigits : List ℕ → Bool
 allDigits [] = true

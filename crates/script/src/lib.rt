@@ -1,4 +1,2 @@
-// A bench script: where a line ends, what it asks, and the text of an answer (document 01, "Image file and bench program").
-pub mod answer;
+// What a line of a bench script asks (document 01, "Image file and bench program").
 pub mod line;
-pub mod lines;

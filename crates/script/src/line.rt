@@ -1,8 +1,9 @@
 // What a line of a script asks.
+use text::digits::digit;
 ghost use mathlib.Core.Path.{_≡_};
 ghost use Prim.Native.Nat.{_≤_};
 ghost use lib.Seq.{sets};
-ghost use Rattle.script.specs.Line.{digitOf, digitsRight, only, frameRight, lineOf, byteAt, frameBytes};
+ghost use Rattle.script.specs.Line.{digitsRight, only, frameRight, lineOf, byteAt, frameBytes};
 
 // A power-on, a selection, a frame of so many bytes, or none of these.
 pub enum Line {
@@ -10,17 +11,6 @@ pub enum Line {
     Select,
     Frame(u8),
     Bad,
-}
-
-// The value of a digit, and 16 for every other byte.
-fn digit(b: u8) -> u8
-    ensures { λ r. ⌜ r ≡ digitOf b ⌝ }
-{
-    match b {
-        b'0'..=b'9' => b - b'0',
-        b'a'..=b'f' => b - b'a' + 10,
-        _ => 16,
-    }
 }
 
 // From byte 2 on every byte is a digit.

@@ -8,18 +8,13 @@
 use mathlib.Core.Path.{_≡_, sym, ap, subst, _∙_}
 use mathlib.Core.List.{List}
 use Prim.Native.Nat.{ℕ, _≤_}
-use native.Mathlib.Omega.{arith}
 use Rattle.model.specs.declared.Map.{Map}
 use Rattle.model.specs.declared.Tag.{Tag}
 use Rattle.model.specs.declared.Decision.{Decision}
 use Rattle.model.specs.Map.{mf0aes20}
 use Rattle.model.specs.Frame.{decide, outcome, frame}
-use Rattle.effect.specs.Speaking.{saidSize}
-use Rattle.effect.proofs.Room.{decided-fits}
-
-five : 5 ≤ mf0aes20 .pages
-unfolding mf0aes20
-five = omega arith
+use Rattle.reply.specs.Speaking.{saidSize}
+use Rattle.reply.proofs.Room.{ours-fits}
 
 module _ (m : Map) (tag : Tag) (s f random : List ℕ) (room : ℕ) (d : Decision) (ours : m ≡ mf0aes20)
     (e : d ≡ decide m tag s f random room) where
@@ -27,7 +22,7 @@ module _ (m : Map) (tag : Tag) (s f random : List ℕ) (room : ℕ) (d : Decisio
   decided = e ∙ ap (λ (k : Map). decide k tag s f random room) ours
 
   pub decided-room : saidSize (d .say) ≤ room
-  decided-room = subst (λ (k : Decision). saidSize (k .say) ≤ room) (sym decided) (decided-fits mf0aes20 tag s f random room five)
+  decided-room = subst (λ (k : Decision). saidSize (k .say) ≤ room) (sym decided) (ours-fits tag s f random room)
 
   pub framed : outcome mf0aes20 tag s d ≡ frame tag s f random room
   unfolding frame

@@ -1,12 +1,10 @@
 // The calls of the tag: power, select, frame, load and save. None asks anything of its caller; each is its definition of the same name in `model`.
-mod deciding;
-
-use effect::speaking;
 use effect::storing;
 use events::Answer;
 use image::Loading;
 use model::State;
 use model::Tag;
+use reply::speaking;
 ghost use mathlib.Core.Path.{_≡_};
 ghost use lib.ListN.{length};
 ghost use Rattle.model.specs.declared.Reply.the-variants.{Silence};

@@ -1,10 +1,8 @@
 // Outside vectors through the public functions of `aes`, `crc` and `tag`: a line for each, with its name and whether the value came out.
-mod cbc;
-mod cipher;
-mod exchange;
-mod login;
-mod modes;
-mod trailer;
+use standards::cipher;
+use standards::exchange;
+use standards::modes;
+use standards::trailer;
 
 fn main() {
     cipher::key_expansion();
@@ -13,7 +11,7 @@ fn main() {
     modes::cbc();
     trailer::trailers();
     exchange::messages();
-    login::logins();
-    login::changed_reply();
+    logins::logins();
+    logins::changed_reply();
     cipher::changed_byte();
 }

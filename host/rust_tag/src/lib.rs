@@ -7,5 +7,7 @@
 
 pub mod aes;
 pub mod bench;
+pub mod c_form;
 pub mod crc;
+pub mod rules;
 pub mod tag;

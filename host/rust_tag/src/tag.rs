@@ -4,6 +4,7 @@
 
 use super::aes::{Aes128, Block, BLOCK};
 use super::crc::{crc_a, CRC_LEN};
+use super::rules::Rule;
 use std::ops::Range;
 
 // ---- sizes
@@ -141,36 +142,21 @@ pub enum Reply {
 #[derive(Clone, Copy, Debug, PartialEq, Eq)]
 pub struct Answer {
     pub number: u8,
+    /// The reason for the number.
+    pub rule: Rule,
     pub reply: Reply,
     pub record: Record,
 }
 
-pub const CARRIED_OUT: u8 = 0;
-pub const WAITS: u8 = 1;
-pub const UNUSABLE: u8 = 10;
-pub const IMAGE_WRONG: u8 = 12;
+pub const WAITS: u8 = Rule::Waiting.number();
+pub const UNUSABLE: u8 = Rule::StoreLength.number();
 
-/// The numbers that NAK and end the session.
-#[derive(Clone, Copy, Debug, PartialEq, Eq)]
-enum Refusal {
-    Damaged = 2,
-    Code = 3,
-    Length = 4,
-    Argument = 5,
-    LoginNeeded = 6,
-    Locked = 7,
-    FalseProof = 8,
-    Overflow = 9,
-    LimitReached = 11,
-}
-
-impl Refusal {
-    fn nibble(self) -> u8 {
-        match self {
-            Refusal::Damaged => NAK_CRC,
-            Refusal::Overflow | Refusal::LimitReached => NAK_OVERFLOW,
-            _ => NAK_ARGUMENT,
-        }
+/// The nibble of each number that NAKs.
+fn nak(number: u8) -> u8 {
+    match number {
+        2 => NAK_CRC,
+        9 | 11 => NAK_OVERFLOW,
+        _ => NAK_ARGUMENT,
     }
 }
 
@@ -180,13 +166,14 @@ impl Record {
         Record { state: State::Waiting, counters: [0; COUNTERS], failed: 0, originality_key: [0; KEY_LEN], challenge: [0; RANDOM_LEN] };
 
     /// Whether a tag can have this record; if not, 10. The key number is judged only while CHALLENGED (D31).
-    fn exists(&self) -> bool {
-        let state = match self.state {
-            State::Unknown(_) => false,
-            State::Challenged(key) => key_exists(key),
-            _ => true,
-        };
-        state && self.failed <= FAILED_MAX && self.counters.iter().all(|&c| c <= COUNTER_MAX)
+    fn judged(&self) -> Result<(), Rule> {
+        require(self.counters.iter().all(|&c| c <= COUNTER_MAX), Rule::CounterHigh)?;
+        require(self.failed <= FAILED_MAX, Rule::FailedHigh)?;
+        match self.state {
+            State::Unknown(_) => Err(Rule::StateUnknown),
+            State::Challenged(key) => require(key_exists(key), Rule::KeptKeyNumber),
+            _ => Ok(()),
+        }
     }
 
     /// The same stored values in another state, without any challenge.
@@ -195,48 +182,56 @@ impl Record {
     }
 }
 
+fn require(holds: bool, rule: Rule) -> Result<(), Rule> {
+    if holds { Ok(()) } else { Err(rule) }
+}
+
 fn key_exists(key: u8) -> bool {
     key <= 2
+}
+
+fn answer(rule: Rule, reply: Reply, record: Record) -> Answer {
+    Answer { number: rule.number(), rule, reply, record }
 }
 
 // ---- power and select
 
 /// Power on: WAITING, whatever the record holds (D33).
 pub fn power(record: Record) -> Answer {
-    Answer { number: CARRIED_OUT, reply: Reply::Silence, record: record.moved_to(State::Waiting) }
+    answer(Rule::CarriedOut, Reply::Silence, record.moved_to(State::Waiting))
 }
 
 /// Selection: ACTIVE from any state, whatever the record holds (D33).
 pub fn select(record: Record) -> Answer {
-    Answer { number: CARRIED_OUT, reply: Reply::Silence, record: record.moved_to(State::Active) }
+    answer(Rule::CarriedOut, Reply::Silence, record.moved_to(State::Active))
 }
 
 // ---- image
 
-/// A section of an image: its count byte, then its bytes. Takes it off the front of `image`; none if the count is another.
-fn section<'a>(image: &mut &'a [u8], count: usize, len: usize) -> Option<&'a [u8]> {
-    let (&found, rest) = image.split_first()?;
-    if usize::from(found) != count || rest.len() < len {
-        return None;
-    }
-    let (bytes, rest) = rest.split_at(len);
+/// A section of an image: its count byte, then its bytes. Takes it off the front of `image`, which is long enough.
+fn section<'a>(image: &mut &'a [u8], count: usize, len: usize, wrong: Rule) -> Result<&'a [u8], Rule> {
+    require(usize::from(image[0]) == count, wrong)?;
+    let (bytes, rest) = image[1..].split_at(len);
     *image = rest;
-    Some(bytes)
+    Ok(bytes)
 }
 
-/// The pages and the record of an image; none if it is wrong.
-fn parse_image(mut image: &[u8]) -> Option<(&[u8], Record)> {
-    let pages = section(&mut image, PAGES, STORE_LEN)?;
-    let counters = section(&mut image, COUNTERS, COUNTERS * COUNTER_LEN)?;
-    let failed = section(&mut image, 1, FAILED_LEN)?;
-    let key = section(&mut image, 1, KEY_LEN)?;
+/// The pages and the record of an image, or what is wrong with it.
+fn parse_image(mut image: &[u8]) -> Result<(&[u8], Record), Rule> {
+    require(image.len() >= IMAGE_LEN, Rule::ImageShort)?;
+    require(image.len() <= IMAGE_LEN, Rule::ImageLong)?;
+    let pages = section(&mut image, PAGES, STORE_LEN, Rule::PagesCount)?;
+    let counters = section(&mut image, COUNTERS, COUNTERS * COUNTER_LEN, Rule::CountersCount)?;
+    let failed = section(&mut image, 1, FAILED_LEN, Rule::FailedCount)?;
+    let key = section(&mut image, 1, KEY_LEN, Rule::KeyCount)?;
     let record = Record {
         counters: std::array::from_fn(|k| low_first(&counters[COUNTER_LEN * k..COUNTER_LEN * (k + 1)])),
         failed: u16::from_le_bytes([failed[0], failed[1]]),
-        originality_key: key.try_into().ok()?,
+        originality_key: std::array::from_fn(|i| key[i]),
         ..Record::ZERO
     };
-    (image.is_empty() && record.exists()).then_some((pages, record))
+    require(record.failed <= FAILED_MAX, Rule::ImageFailedHigh)?;
+    Ok((pages, record))
 }
 
 /// A number of up to four bytes, low byte first (8.2).
@@ -246,36 +241,56 @@ fn low_first(bytes: &[u8]) -> u32 {
 
 /// Loads an image into the store: 0, 10 or 12. A refused loading changes no byte of the store and hands back the zero record.
 pub fn load(image: &[u8], store: &mut [u8]) -> (u8, Record) {
+    let (rule, record) = load_by_rule(image, store);
+    (rule.number(), record)
+}
+
+/// The same with the reason for the number. 10 comes before 12.
+pub fn load_by_rule(image: &[u8], store: &mut [u8]) -> (Rule, Record) {
     if store.len() != STORE_LEN {
-        return (UNUSABLE, Record::ZERO);
+        return (Rule::StoreLength, Record::ZERO);
     }
     match parse_image(image) {
-        Some((pages, record)) => {
+        Ok((pages, record)) => {
             store.copy_from_slice(pages);
-            (CARRIED_OUT, record)
+            (Rule::CarriedOut, record)
         }
-        None => (IMAGE_WRONG, Record::ZERO),
+        Err(rule) => (rule, Record::ZERO),
     }
 }
 
 /// Writes the image of a tag into the first 271 bytes of `image`: 0 or 10. The state is not part of it, but is judged (D34).
 pub fn save(record: &Record, store: &[u8], image: &mut [u8]) -> u8 {
-    if store.len() != STORE_LEN || image.len() < IMAGE_LEN || !record.exists() {
-        return UNUSABLE;
+    save_by_rule(record, store, image).number()
+}
+
+/// The same with the reason for the number.
+pub fn save_by_rule(record: &Record, store: &[u8], image: &mut [u8]) -> Rule {
+    let usable = || {
+        require(store.len() == STORE_LEN, Rule::StoreLength)?;
+        require(image.len() >= IMAGE_LEN, Rule::ImageBufferLength)?;
+        record.judged()
+    };
+    if let Err(rule) = usable() {
+        return rule;
     }
-    let mut bytes = Vec::with_capacity(IMAGE_LEN);
-    bytes.push(PAGES as u8);
-    bytes.extend_from_slice(store);
-    bytes.push(COUNTERS as u8);
+    image[..IMAGE_LEN].copy_from_slice(&image_of(record, store));
+    Rule::CarriedOut
+}
+
+fn image_of(record: &Record, store: &[u8]) -> Vec<u8> {
+    let mut image = Vec::with_capacity(IMAGE_LEN);
+    image.push(PAGES as u8);
+    image.extend_from_slice(store);
+    image.push(COUNTERS as u8);
     for counter in record.counters {
-        bytes.extend_from_slice(&counter.to_le_bytes()[..COUNTER_LEN]);
+        image.extend_from_slice(&counter.to_le_bytes()[..COUNTER_LEN]);
     }
-    bytes.push(1);
-    bytes.extend_from_slice(&record.failed.to_le_bytes());
-    bytes.push(1);
-    bytes.extend_from_slice(&record.originality_key);
-    image[..IMAGE_LEN].copy_from_slice(&bytes);
-    CARRIED_OUT
+    image.push(1);
+    image.extend_from_slice(&record.failed.to_le_bytes());
+    image.push(1);
+    image.extend_from_slice(&record.originality_key);
+    image
 }
 
 // ---- settings, as they stand in the store
@@ -292,20 +307,21 @@ fn cfg_1_has(store: &Store, bit: u8) -> bool {
     store[at(CFG_1)] & bit != 0
 }
 
-/// Whether a lock bit bars writing the page. Pages 02h and 28h are never locked (D15).
-fn locked(store: &Store, page: u8) -> bool {
-    let bit_set = |offset: usize, bit: u8| store[offset] >> bit & 1 != 0;
-    match page {
-        0x03..=0x07 => bit_set(at(LOCK_PAGE) + 2, page),
-        0x08..=0x0F => bit_set(at(LOCK_PAGE) + 3, page - 0x08),
-        0x10..=0x1F => bit_set(at(DYNAMIC_LOCK_PAGE), (page - 0x10) / 2),
-        0x20..=0x27 => bit_set(at(DYNAMIC_LOCK_PAGE) + 1, (page - 0x20) / 2),
-        CFG_0 | CFG_1 => cfg_1_has(store, LOCK_USR_CFG),
-        LOCK_KEYS => store[at(LOCK_KEYS)] & BLOCK_LOCK_KEY != 0,
-        0x30..=0x33 => store[at(LOCK_KEYS)] & LOCK_AES_KEY0 != 0,
-        0x34..=0x37 => store[at(LOCK_KEYS)] & LOCK_AES_KEY1 != 0,
-        _ => false,
-    }
+/// What locks the page, and whether it does. Pages 02h and 28h are never locked (D15), nor are the reserved ones.
+fn lock_of(store: &Store, page: u8) -> Option<(bool, Rule)> {
+    let bit = |offset: usize, bit: u8| store[offset] >> bit & 1 != 0;
+    let key_lock = |mask: u8| store[at(LOCK_KEYS)] & mask != 0;
+    Some(match page {
+        0x03..=0x07 => (bit(at(LOCK_PAGE) + 2, page), Rule::LockByte0),
+        0x08..=0x0F => (bit(at(LOCK_PAGE) + 3, page - 0x08), Rule::LockByte1),
+        0x10..=0x1F => (bit(at(DYNAMIC_LOCK_PAGE), (page - 0x10) / 2), Rule::LockByte2),
+        0x20..=0x27 => (bit(at(DYNAMIC_LOCK_PAGE) + 1, (page - 0x20) / 2), Rule::LockByte3),
+        CFG_0 | CFG_1 => (cfg_1_has(store, LOCK_USR_CFG), Rule::ConfigurationLocked),
+        LOCK_KEYS => (key_lock(BLOCK_LOCK_KEY), Rule::KeyLocksBlocked),
+        0x30..=0x33 => (key_lock(LOCK_AES_KEY0), Rule::DataProtKeyLocked),
+        0x34..=0x37 => (key_lock(LOCK_AES_KEY1), Rule::UidRetrKeyLocked),
+        _ => return None,
+    })
 }
 
 // ---- one-way bits
@@ -338,53 +354,54 @@ fn written(page: u8, old: Page, data: Page) -> Page {
 // ---- frames
 
 /// The frame length of each command with its CRC (Tables 20, 27 to 56); none for a code that the base does not know.
-fn frame_len(code: u8) -> Option<usize> {
-    match code {
-        READ | READ_CNT | AUTHENTICATE | HLTA => Some(4),
-        FAST_READ => Some(5),
-        WRITE | INCR_CNT => Some(8),
-        AUTHENTICATE_2 => Some(35),
-        _ => None,
-    }
+fn frame_len(code: u8) -> Option<(usize, Rule)> {
+    Some(match code {
+        READ => (4, Rule::ReadLength),
+        FAST_READ => (5, Rule::FastReadLength),
+        WRITE => (8, Rule::WriteLength),
+        READ_CNT => (4, Rule::ReadCounterLength),
+        INCR_CNT => (8, Rule::RaiseCounterLength),
+        AUTHENTICATE => (4, Rule::AuthenticateLength),
+        AUTHENTICATE_2 => (35, Rule::ProofLength),
+        HLTA => (4, Rule::HaltLength),
+        _ => return None,
+    })
 }
 
 /// Checks 2, 3 and 4, in this order. Gives the frame without its CRC.
-fn judged(state: State, frame: &[u8]) -> Result<&[u8], Refusal> {
-    if !(FRAME_MIN..=FRAME_MAX).contains(&frame.len()) {
-        return Err(Refusal::Damaged);
-    }
+fn judged(state: State, frame: &[u8]) -> Result<&[u8], Rule> {
+    require(frame.len() >= FRAME_MIN, Rule::FrameShort)?;
+    require(frame.len() <= FRAME_MAX, Rule::FrameLong)?;
     let (plain, crc) = frame.split_at(frame.len() - CRC_LEN);
-    if crc_a(plain) != crc {
-        return Err(Refusal::Damaged);
-    }
+    require(crc_a(plain) == crc, Rule::CrcWrong)?;
+    let (len, wrong_len) = frame_len(plain[0]).ok_or(Rule::CodeUnknown)?;
     // While CHALLENGED only AFh is allowed, and AFh nowhere else (D3).
-    let challenged = matches!(state, State::Challenged(_));
-    let len = frame_len(plain[0]).ok_or(Refusal::Code)?;
-    if challenged != (plain[0] == AUTHENTICATE_2) {
-        return Err(Refusal::Code);
-    }
-    if frame.len() == len { Ok(plain) } else { Err(Refusal::Length) }
+    let (challenged, proof) = (matches!(state, State::Challenged(_)), plain[0] == AUTHENTICATE_2);
+    require(challenged || !proof, Rule::ProofUnasked)?;
+    require(!challenged || proof, Rule::ProofExpected)?;
+    require(frame.len() == len, wrong_len)?;
+    Ok(plain)
 }
 
 /// A frame, with 16 random bytes for a challenge. Bytes of the reply buffer behind the reply are not written.
 pub fn frame(record: Record, store: &mut [u8], frame: &[u8], random: &[u8], reply: &mut [u8]) -> Answer {
-    let kept = |number| Answer { number, reply: Reply::Silence, record };
-    let (Ok(store), Ok(random)) = (<&mut Store>::try_from(store), <&Block>::try_from(random)) else {
-        return kept(UNUSABLE);
+    let kept = |rule| answer(rule, Reply::Silence, record);
+    let Ok(store) = <&mut Store>::try_from(store) else {
+        return kept(Rule::StoreLength);
     };
-    if reply.len() < REPLY_LEN || !record.exists() {
-        return kept(UNUSABLE);
+    let Ok(random) = <&Block>::try_from(random) else {
+        return kept(Rule::RandomLength);
+    };
+    if let Err(rule) = require(reply.len() >= REPLY_LEN, Rule::ReplyLength).and_then(|()| record.judged()) {
+        return kept(rule);
     }
     if record.state == State::Waiting {
-        return kept(WAITS);
+        return kept(Rule::Waiting);
     }
     let mut session = Session { record, store, reply };
     match session.carry_out(frame, random) {
-        Ok(reply) => Answer { number: CARRIED_OUT, reply, record: session.record },
-        Err(refusal) => {
-            let record = session.record.moved_to(State::Waiting);
-            Answer { number: refusal as u8, reply: Reply::Nibble(refusal.nibble()), record }
-        }
+        Ok(reply) => answer(Rule::CarriedOut, reply, session.record),
+        Err(rule) => answer(rule, Reply::Nibble(nak(rule.number())), session.record.moved_to(State::Waiting)),
     }
 }
 
@@ -395,7 +412,7 @@ struct Session<'a> {
     reply: &'a mut [u8],
 }
 
-type Outcome = Result<Reply, Refusal>;
+type Outcome = Result<Reply, Rule>;
 
 impl Session<'_> {
     fn carry_out(&mut self, frame: &[u8], random: &Block) -> Outcome {
@@ -416,7 +433,7 @@ impl Session<'_> {
             [INCR_CNT, number, a, b, c, _] => self.raise_counter(number, low_first(&[a, b, c])),
             [HLTA, second] => self.halt(second),
             // `judged` lets no other code or length through.
-            _ => Err(Refusal::Length),
+            _ => Err(Rule::CodeUnknown),
         }
     }
 
@@ -434,24 +451,20 @@ impl Session<'_> {
     // ---- reading (10.2, 10.3)
 
     fn read(&mut self, page: u8) -> Outcome {
-        if page > LAST_READ_PAGE {
-            return Err(Refusal::Argument);
-        }
-        self.read_pages(page, page + 3)
+        require(page <= LAST_READ_PAGE, Rule::ReadPageHigh)?;
+        self.read_pages(page, page + 3, Rule::ReadProtected)
     }
 
     fn fast_read(&mut self, start: u8, end: u8) -> Outcome {
-        if start > end || end > LAST_PAGE {
-            return Err(Refusal::Argument);
-        }
-        self.read_pages(start, end)
+        require(start <= end, Rule::FastReadOrder)?;
+        require(end <= LAST_PAGE, Rule::FastReadEndHigh)?;
+        self.read_pages(start, end, Rule::FastReadProtected)
     }
 
     /// One protected page is enough for 6; the last page is protected if any is.
-    fn read_pages(&mut self, start: u8, end: u8) -> Outcome {
-        if cfg_1_has(self.store, PROT) && !self.authenticated() && end >= auth0(self.store) {
-            return Err(Refusal::LoginNeeded);
-        }
+    fn read_pages(&mut self, start: u8, end: u8, protected: Rule) -> Outcome {
+        let barred = cfg_1_has(self.store, PROT) && !self.authenticated() && end >= auth0(self.store);
+        require(!barred, protected)?;
         let (from, to) = (at(start), at(end) + PAGE_LEN);
         let data = &mut self.reply[..to - from];
         data.copy_from_slice(&self.store[from..to]);
@@ -465,14 +478,12 @@ impl Session<'_> {
     // ---- writing (10.4)
 
     fn write(&mut self, page: u8, data: Page) -> Outcome {
-        if !(LOCK_PAGE..=LAST_PAGE).contains(&page) {
-            return Err(Refusal::Argument);
-        }
-        if !self.authenticated() && page >= auth0(self.store) || self.flips_random_id(page, data) {
-            return Err(Refusal::LoginNeeded);
-        }
-        if locked(self.store, page) {
-            return Err(Refusal::Locked);
+        require(page >= LOCK_PAGE, Rule::WritePageLow)?;
+        require(page <= LAST_PAGE, Rule::WritePageHigh)?;
+        require(self.authenticated() || page < auth0(self.store), Rule::WriteProtected)?;
+        require(!self.flips_random_id(page, data), Rule::RandomIdChange)?;
+        if let Some((true, lock)) = lock_of(self.store, page) {
+            return Err(lock);
         }
         let place = &mut self.store[at(page)..at(page) + PAGE_LEN];
         let old = [place[0], place[1], place[2], place[3]];
@@ -487,20 +498,15 @@ impl Session<'_> {
 
     // ---- counters (10.5, 10.6)
 
-    /// The counter's index. Counter 2 is open only to AUTHENTICATED, unless its setting opens it (Table 15, D22).
-    fn counter(&self, number: u8, opened_by: u8) -> Result<usize, Refusal> {
-        let index = usize::from(number);
-        if index >= COUNTERS {
-            return Err(Refusal::Argument);
-        }
-        if index == 2 && !self.authenticated() && !cfg_1_has(self.store, opened_by) {
-            return Err(Refusal::LoginNeeded);
-        }
-        Ok(index)
+    /// Counter 2 is open only to AUTHENTICATED, unless its setting opens it (Table 15, D22).
+    fn counter_open(&self, index: usize, opened_by: u8) -> bool {
+        index != 2 || self.authenticated() || cfg_1_has(self.store, opened_by)
     }
 
     fn read_counter(&mut self, number: u8) -> Outcome {
-        let index = self.counter(number, CNT_RD_EN)?;
+        let index = usize::from(number);
+        require(index < COUNTERS, Rule::ReadCounterNumber)?;
+        require(self.counter_open(index, CNT_RD_EN), Rule::ReadCounterClosed)?;
         let bytes = self.record.counters[index].to_le_bytes();
         self.reply[..COUNTER_LEN].copy_from_slice(&bytes[..COUNTER_LEN]);
         Ok(self.with_crc(COUNTER_LEN))
@@ -508,11 +514,11 @@ impl Session<'_> {
 
     /// Both numbers have 24 bits, so the sum fits; an increment of 0 is always possible (8.5.9, D23).
     fn raise_counter(&mut self, number: u8, increment: u32) -> Outcome {
-        let index = self.counter(number, CNT_INC_EN)?;
+        let index = usize::from(number);
+        require(index < COUNTERS, Rule::RaiseCounterNumber)?;
+        require(self.counter_open(index, CNT_INC_EN), Rule::RaiseCounterClosed)?;
         let sum = self.record.counters[index] + increment;
-        if sum > COUNTER_MAX {
-            return Err(Refusal::Overflow);
-        }
+        require(sum <= COUNTER_MAX, Rule::CounterPast)?;
         self.record.counters[index] = sum;
         Ok(Reply::Nibble(ACK))
     }
@@ -530,9 +536,9 @@ impl Session<'_> {
     }
 
     /// AUTH_LIM 0 switches the limit off; it is checked at both parts, for every key (D26).
-    fn below_limit(&self) -> Result<(), Refusal> {
+    fn below_limit(&self) -> bool {
         let limit = auth_lim(self.store);
-        if limit != 0 && self.record.failed >= limit { Err(Refusal::LimitReached) } else { Ok(()) }
+        limit == 0 || self.record.failed < limit
     }
 
     /// One block enciphered from a zero IV, behind the byte that tells how the authentication stands.
@@ -546,10 +552,8 @@ impl Session<'_> {
 
     /// Challenges the reader. Any login is gone from here on (D29).
     fn part_1(&mut self, key: u8, random: &Block) -> Outcome {
-        if !key_exists(key) {
-            return Err(Refusal::Argument);
-        }
-        self.below_limit()?;
+        require(key_exists(key), Rule::KeyNumber)?;
+        require(self.below_limit(), Rule::LimitAtPart1)?;
         let aes = Aes128::new(&self.key(key));
         self.record.state = State::Challenged(key);
         self.record.challenge = *random;
@@ -558,17 +562,14 @@ impl Session<'_> {
 
     /// Judges the reader's proof: RndA and the rotated challenge, enciphered (Table 16).
     fn part_2(&mut self, key: u8, proof: &[u8]) -> Outcome {
-        self.below_limit()?;
+        require(self.below_limit(), Rule::LimitAtPart2)?;
         let aes = Aes128::new(&self.key(key));
         let mut text = [0; 2 * BLOCK];
         text.copy_from_slice(proof);
         aes.cbc_decrypt(&ZERO_IV, &mut text);
         let rnd_a: Block = std::array::from_fn(|i| text[i]);
         let right = text[BLOCK..] == rotated(&self.record.challenge);
-        self.count_proof(right);
-        if !right {
-            return Err(Refusal::FalseProof);
-        }
+        self.count_proof(right)?;
         let state = match key {
             0 => State::Authenticated,
             1 => State::Traceable,
@@ -579,20 +580,19 @@ impl Session<'_> {
     }
 
     /// The failed count after a proof below the limit (8.6.5). With AUTH_LIM 0 it stays (D27). Below the limit it is under 1,023, so it never wraps.
-    fn count_proof(&mut self, right: bool) {
+    fn count_proof(&mut self, right: bool) -> Result<(), Rule> {
         if auth_lim(self.store) == 0 {
-            return;
+            return require(right, Rule::ProofFalse);
         }
         let failed = self.record.failed;
         self.record.failed = if right { failed.saturating_sub(FORGIVEN) } else { failed + 1 };
+        require(right, Rule::ProofFalseCounted)
     }
 
     // ---- HLTA (8.4)
 
     fn halt(&mut self, second: u8) -> Outcome {
-        if second != 0 {
-            return Err(Refusal::Argument);
-        }
+        require(second == 0, Rule::HaltArgument)?;
         self.record = self.record.moved_to(State::Waiting);
         Ok(Reply::Silence)
     }

@@ -8,7 +8,9 @@ mod rust_tag;
 
 use rust_tag::aes::{Aes128, Block};
 use rust_tag::bench;
+use rust_tag::c_form::{self, buffer_of, record_of, RECORD_LEN};
 use rust_tag::crc::crc_a;
+use rust_tag::rules::Rule;
 use rust_tag::tag::*;
 
 fn hex(digits: &str) -> Vec<u8> {
@@ -347,7 +349,8 @@ fn number_10_changes_nothing() {
         let answer = rig.send("a20401020304");
         assert_eq!((answer.number, answer.reply, answer.record), (10, Reply::Silence, before.record), "spoil {i}");
         assert_eq!((&rig.store, &rig.reply), (&before.store, &before.reply));
-        assert_eq!(power(before.record), Answer { number: 0, reply: Reply::Silence, record: power(answer.record).record });
+        assert_eq!((power(before.record).number, power(before.record).reply), (0, Reply::Silence));
+        assert_eq!(power(before.record), power(answer.record));
         assert_eq!(power(before.record).record.challenge, [0; 16]);
     }
 }
@@ -477,6 +480,101 @@ fn refused_images() {
     assert_eq!(save(&Record::ZERO, &[0; 241], &mut [0; 271]), 10);
     assert_eq!(save(&Record { failed: 1024, ..Record::ZERO }, &[0; 240], &mut [0; 271]), 10);
     assert_eq!(short, [1; 270]);
+}
+
+// ---- C form
+
+/// A record in ACTIVE with a byte of its own in each stored place.
+fn sample_buffer() -> [u8; RECORD_LEN] {
+    let mut buffer: [u8; RECORD_LEN] = std::array::from_fn(|i| i as u8);
+    for at in [3, 7, 11, 13, 15] {
+        buffer[at] = 0;
+    }
+    buffer[c_form::STATE_AT] = c_form::ACTIVE;
+    buffer[c_form::CHALLENGE_AT..].fill(0);
+    buffer
+}
+
+#[test]
+fn record_buffer_layout() {
+    let record = record_of(&sample_buffer());
+    assert_eq!(record.counters, [0x020100, 0x060504, 0x0A0908]);
+    assert_eq!((record.failed, record.state), (0x0C, State::Active));
+    assert_eq!((record.originality_key[0], record.originality_key[15]), (16, 31));
+    assert_eq!(buffer_of(&record), sample_buffer());
+    let challenged = Record { state: State::Challenged(2), challenge: [0xC3; 16], ..record };
+    assert_eq!(buffer_of(&challenged)[14..16], [4, 2]);
+    assert_eq!(buffer_of(&challenged)[32..], [0xC3; 16]);
+    assert_eq!(record_of(&buffer_of(&challenged)), challenged);
+}
+
+#[test]
+fn c_events_take_any_record_of_48_bytes() {
+    for len in [0, 1, 47, 49] {
+        let mut record = vec![0xFF; len];
+        assert_eq!((c_form::power(&mut record), c_form::select(&mut record)), (10, 10));
+        assert_eq!(record, vec![0xFF; len]);
+    }
+    for (call, state) in [(c_form::power as fn(&mut [u8]) -> u8, c_form::WAITING), (c_form::select, c_form::ACTIVE)] {
+        let mut record = [0xFF; RECORD_LEN];
+        assert_eq!(call(&mut record), 0);
+        assert_eq!((&record[..14], &record[16..32]), (&[0xFF; 14][..], &[0xFF; 16][..]));
+        assert_eq!((record[14], record[15], &record[32..]), (state, 0, &[0; 16][..]));
+    }
+}
+
+#[test]
+fn c_load_and_save() {
+    let image = sample_image();
+    let (mut record, mut store) = ([0xEE; RECORD_LEN], [0xEE; STORE_LEN]);
+    assert_eq!(c_form::load(&mut record, &mut store[..239], &image), 10);
+    assert_eq!(c_form::load(&mut record[..47], &mut store, &image), 10);
+    assert_eq!(c_form::load(&mut record[..47], &mut store, &[]), 10);
+    assert_eq!((record, store), ([0xEE; RECORD_LEN], [0xEE; STORE_LEN]));
+    assert_eq!(c_form::load(&mut record, &mut store, &image[1..]), 12);
+    assert_eq!((record, store), ([0; RECORD_LEN], [0xEE; STORE_LEN]));
+    assert_eq!(c_form::load(&mut record, &mut store, &image), 0);
+    assert_eq!((record[0], record[14], record[16]), (10, c_form::WAITING, 7));
+    let mut file = [0xDD; 280];
+    assert_eq!(c_form::save(&record[..47], &store, &mut file), 10);
+    assert_eq!(c_form::save(&record, &store, &mut file[..270]), 10);
+    assert_eq!(file, [0xDD; 280]);
+    assert_eq!(c_form::save(&record, &store, &mut file), 0);
+    assert_eq!((&file[..271], &file[271..]), (&image[..], &[0xDD; 9][..]));
+}
+
+#[test]
+fn c_frame_packs_its_answer() {
+    let (mut record, mut store, mut reply) = (sample_buffer(), [0; STORE_LEN], [0; REPLY_LEN]);
+    store[4 * 0x29 + 3] = 0x3C;
+    let mut send = |record: &mut [u8], plain: &str| c_form::frame(record, &mut store, &with_crc(&hex(plain)), &[5; 16], &mut reply);
+    assert_eq!(send(&mut record, "3004"), 18 << 32 | 2 << 8);
+    assert_eq!(send(&mut record, "a20401020304"), 0xA << 16 | 1 << 8);
+    assert_eq!(send(&mut record, "1a02"), 19 << 32 | 2 << 8);
+    assert_eq!((record[14], record[15], &record[32..]), (c_form::CHALLENGED, 2, &[5; 16][..]));
+    assert_eq!(send(&mut record, "3004"), 1 << 8 | 3);
+    assert_eq!((record[14], record[15], &record[32..]), (c_form::WAITING, 0, &[0; 16][..]));
+    record[15] = 9;
+    assert_eq!(send(&mut record, "3004"), 1);
+    assert_eq!(record[15], 9);
+    assert_eq!(c_form::select(&mut record), 0);
+    assert_eq!(send(&mut record, "5000"), 0);
+    assert_eq!(send(&mut record[..47], "3004"), 10);
+}
+
+#[test]
+fn rules_tell_the_reason() {
+    let rows = [
+        ("60", Rule::CodeUnknown), ("af", Rule::ProofUnasked), ("30", Rule::ReadLength), ("3a0504", Rule::FastReadOrder), ("3a003c", Rule::FastReadEndHigh),
+        ("a20100000000", Rule::WritePageLow), ("a23c00000000", Rule::WritePageHigh), ("1a03", Rule::KeyNumber), ("5001", Rule::HaltArgument),
+        ("a2290100003c", Rule::RandomIdChange), ("3000", Rule::CarriedOut),
+    ];
+    for (plain, rule) in rows {
+        let answer = Rig::new().send(plain);
+        assert_eq!((answer.rule, answer.number), (rule, rule.number()), "{plain}");
+    }
+    assert!(Rule::ALL.iter().enumerate().all(|(i, &rule)| rule as usize == i));
+    assert!(Rule::ALL.windows(2).all(|pair| pair[0].number() <= pair[1].number()));
 }
 
 // ---- bench program

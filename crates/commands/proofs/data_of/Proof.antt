@@ -1,6 +1,5 @@
 -- `commands::data_of` meets its contract: four bytes, each where the definition reads it.
 -- Assumes nothing.
-use mathlib.Core.Path.{_≡_}
 use borrow.Author.Needs.{needs}
 use Rattle.commands.proofs.data_of.Statement.{statement}
 use Rattle.commands.proofs.data_of.Tie as tie

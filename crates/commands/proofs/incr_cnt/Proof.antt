@@ -1,15 +1,14 @@
 -- `commands::incr_cnt` meets its contract: by its own number, what it comes to.
 -- Assumes nothing.
 use mathlib.Core.Path.{_≡_, sym, ap, ap₂, _∙_}
-use Prim.Native.Nat.{ℕ, _+_, _≤_}
+use Prim.Native.Nat.{_+_}
 use native.Mathlib.Omega.{arith}
 use borrow.Author.Needs.{needs}
 use denote.Ref.{now}
 use lib.ListN.{getD}
-use Rattle.model.specs.declared.Quad.{Quad}
 use Rattle.model.specs.declared.Command.the-variants.{IncrCnt}
 use Rattle.model.specs.declared.Effect.the-variants.{Counter}
-use Rattle.model.specs.Record.{counter, highestCounter}
+use Rattle.model.specs.Record.{counter}
 use Rattle.model.specs.Numbers.{acknowledged}
 use Rattle.model.specs.Counters.{increment, incrCntNumber}
 use Rattle.model.specs.Frame.{data4, commandNumber, commandDone}

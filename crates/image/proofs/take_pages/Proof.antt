@@ -10,7 +10,7 @@ use denote.Ref.{now}
 use Rattle.model.specs.Map.{storeSize}
 use Rattle.model.specs.Image.{storeOf}
 use Rattle.model.proofs.Image.{right}
-use Rattle.image.proofs.Sections.{sets-all}
+use Rattle.octets.proofs.Laid.{sets-all}
 use Rattle.image.proofs.take_pages.Statement.{statement}
 use Rattle.image.proofs.take_pages.Tie as tie
 

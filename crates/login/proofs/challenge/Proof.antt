@@ -1,8 +1,7 @@
 -- `login::challenge` meets its contract: each part where the definition has it.
 -- Assumes nothing.
-use mathlib.Core.Path.{_≡_, ap₂, _∙_}
+use mathlib.Core.Path.{_∙_}
 use borrow.Author.Needs.{needs}
-use denote.Ref.{now}
 use Rattle.fips197.specs.Cbc.{cbcEncipher}
 use Rattle.model.specs.declared.State.the-variants.{Challenged}
 use Rattle.model.specs.declared.Effect.the-variants.{Keep}

@@ -1,17 +1,10 @@
 -- `login::judge_answer` meets its contract: the second block deciphered is the challenge rotated, or it is not.
 -- Assumes nothing.
-use mathlib.Core.Path.{_≡_, refl, sym, ap, ap₂, _∙_}
-use mathlib.Core.List.{List}
-use mathlib.Core.Bool.{Bool, true, false, not}
-use Prim.Native.Nat.{ℕ}
-use lib.ListN.{drop}
+use mathlib.Core.Path.{sym, ap, _∙_}
 use borrow.Author.Needs.{needs}
 use denote.Ref.{now}
-use Rattle.fips197.specs.Cbc.{cbcEncipher}
-use Rattle.aes.specs.TwoBlocks.{cbcDecipherTwo}
-use Rattle.model.specs.Record.{zeros}
 use Rattle.model.specs.Numbers.{refused}
-use Rattle.model.specs.Authentication.{rotated, sameBytes}
+use Rattle.model.specs.Authentication.{rotated}
 use Rattle.login.proofs.PartTwo.{proof-refused, proof-granted}
 use Rattle.login.proofs.judge_answer.Statement.{statement}
 use Rattle.login.proofs.judge_answer.Tie as tie

@@ -1,8 +1,7 @@
 -- `login::logged` meets its contract: each part where the definition has it.
 -- Assumes nothing.
-use mathlib.Core.Path.{_≡_, refl, ap, _∙_}
+use mathlib.Core.Path.{ap, _∙_}
 use borrow.Author.Needs.{needs}
-use denote.Ref.{now}
 use Rattle.fips197.specs.Cbc.{cbcEncipher}
 use Rattle.model.specs.declared.Say.the-variants.{Block}
 use Rattle.model.specs.Record.{zeros}

@@ -1,7 +1,6 @@
 -- `login::prove` meets its contract: 11 at the limit.
 -- Assumes nothing.
-use mathlib.Core.Path.{_≡_, sym, _∙_}
-use mathlib.Core.Bool.{true, false}
+use mathlib.Core.Path.{sym, _∙_}
 use borrow.Author.Needs.{needs}
 use denote.Ref.{now}
 use Rattle.login.proofs.PartTwo.{proof-at-limit}

@@ -1,8 +1,6 @@
 -- `player::frame_of` meets its contract: the bytes are laid, and sealed with their CRC_A.
 -- Assumes nothing.
-use mathlib.Core.Path.{_≡_, sym, ap, _∙_}
-use mathlib.Core.List.{List}
-use Prim.Native.Nat.{ℕ, _+_, _≤_}
+use mathlib.Core.Path.{_≡_, sym, _∙_}
 use native.Mathlib.Omega.{arith}
 use borrow.Author.Needs.{needs}
 use denote.Ref.{now}
@@ -10,10 +8,9 @@ use lib.ListN.{length, take}
 use Rattle.octets.proofs.Laid.{take-sets}
 use Rattle.crc.specs.CrcA.{withCrc}
 use Rattle.crc.proofs.Laws.{withCrc-length}
-use Rattle.effect.specs.Speaking.{Laid}
-use Rattle.effect.proofs.Sealed.{sealed}
+use Rattle.framing.proofs.Sealed.{sealed}
 use Rattle.script.specs.Line.{byteAt, frameBytes}
-use Rattle.script.proofs.Listed.{listed-length}
+use Rattle.text.proofs.Listed.{listed-length}
 use Rattle.player.proofs.frame_of.Statement.{statement}
 use Rattle.player.proofs.frame_of.Tie as tie
 

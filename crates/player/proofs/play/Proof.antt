@@ -1,14 +1,13 @@
 -- `player::play` meets its contract: each arm is a case of the turn.
 -- Assumes nothing.
-use mathlib.Core.Path.{_≡_, refl, sym, ap, _∙_}
-use mathlib.Core.List.{List, []}
+use mathlib.Core.Path.{refl, sym, ap, _∙_}
+use mathlib.Core.List.{[]}
 use native.Mathlib.Omega.{arith}
 use borrow.Author.Needs.{needs}
 use denote.Ref.{now}
 use Rattle.model.specs.Calls.{step}
-use Rattle.script.specs.Line.{lineOf}
 use Rattle.events.specs.declared.Answer.{Answer}
-use Rattle.script.specs.Answer.{answerText}
+use Rattle.answers.specs.Answer.{answerText}
 use Rattle.player.specs.Play.{turn}
 use Rattle.player.proofs.Turns.{frame-short}
 use Rattle.player.proofs.play.Statement.{statement}

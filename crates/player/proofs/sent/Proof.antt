@@ -1,14 +1,10 @@
 -- `player::sent` meets its contract: the frame's answer makes the turn.
 -- Assumes nothing.
-use mathlib.Core.Path.{_≡_, refl, sym, subst}
-use mathlib.Core.List.{List}
-use Prim.Native.Nat.{ℕ}
+use mathlib.Core.Path.{refl, sym}
 use native.Mathlib.Omega.{arith}
 use borrow.Author.Needs.{needs}
 use denote.Ref.{now}
-use lib.ListN.{length}
 use lib.Seq.{length-take-le}
-use Rattle.script.specs.Answer.{WrittenAt}
 use Rattle.player.proofs.Turns.{sent-turn}
 use Rattle.player.proofs.sent.Statement.{statement}
 use Rattle.player.proofs.sent.Tie as tie

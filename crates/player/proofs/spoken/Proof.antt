@@ -1,14 +1,10 @@
 -- `player::spoken` meets its contract: the data is what the reply's arm says.
 -- Assumes nothing.
-use mathlib.Core.Path.{_≡_, ap, subst}
-use mathlib.Core.List.{List}
-use Prim.Native.Nat.{ℕ, _-_, _≤_}
+use Prim.Native.Nat.{_-_}
 use native.Mathlib.Omega.{arith}
 use borrow.Author.Needs.{needs}
 use denote.Ref.{now}
-use lib.ListN.{length, take}
-use Rattle.script.specs.Answer.{answerText, WrittenAt}
-use Rattle.script.proofs.Texts.{part-length}
+use Rattle.answers.proofs.Texts.{part-length}
 use Rattle.player.proofs.spoken.Statement.{statement}
 use Rattle.player.proofs.spoken.Tie as tie
 

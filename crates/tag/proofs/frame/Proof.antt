@@ -1,6 +1,6 @@
 -- `tag::frame` meets its contract: what is decided makes the outcome, part by part.
 -- Assumes nothing.
-use mathlib.Core.Path.{_≡_, _∙_}
+use mathlib.Core.Path.{_∙_}
 use lib.ListN.{length}
 use borrow.Author.Needs.{needs}
 use denote.Ref.{now}

@@ -1,7 +1,7 @@
 -- `image::writing::lay_counters` meets its contract: the bytes are the definition's.
 -- Assumes nothing.
 use borrow.Author.Needs.{needs}
-use Rattle.image.specs.Sections.{countersSection}
+use Rattle.sections.specs.Sections.{countersSection}
 use Rattle.image.proofs.writing.lay_counters.Statement.{statement}
 use Rattle.image.proofs.writing.lay_counters.Tie as tie
 

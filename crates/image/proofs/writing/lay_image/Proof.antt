@@ -2,7 +2,7 @@
 -- Assumes nothing.
 use borrow.Author.Needs.{needs}
 use denote.Ref.{now}
-use Rattle.image.proofs.Sections.{sections}
+use Rattle.sections.proofs.Sections.{sections}
 use Rattle.image.proofs.writing.lay_image.Statement.{statement}
 use Rattle.image.proofs.writing.lay_image.Tie as tie
 

@@ -1,5 +1,4 @@
 -- `script::line::byte_at` meets its contract. Assumes nothing.
-use native.Mathlib.Omega.{arith}
 use borrow.Author.Needs.{needs}
 use Rattle.script.specs.Line.{byteAt}
 use Rattle.script.proofs.line.byte_at.Statement.{statement}

@@ -8,9 +8,9 @@ use native.Mathlib.Omega.{arith}
 use borrow.Author.Needs.{needs}
 use lib.ListN.{length}
 use lib.Seq.{sets, length-sets}
-use Rattle.script.specs.Listed.{listed}
+use Rattle.text.specs.Listed.{listed}
 use Rattle.script.specs.Line.{byteAt}
-use Rattle.script.proofs.Listed.{listed-suc}
+use Rattle.text.proofs.Listed.{listed-suc}
 use Rattle.script.proofs.line.lay_frame.Statement.{statement}
 use Rattle.script.proofs.line.lay_frame.Tie as tie
 

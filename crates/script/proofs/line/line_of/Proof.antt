@@ -1,9 +1,9 @@
 -- `script::line::line_of` meets its contract: each branch is a case of the definition.
 -- Assumes nothing.
 use mathlib.Core.Path.{_≡_, sym, _∙_}
-use mathlib.Core.Bool.{true, false}
+use mathlib.Core.Bool.{true}
 use native.Mathlib.Omega.{arith}
-use borrow.Author.Needs.{needs, fits-under}
+use borrow.Author.Needs.{needs}
 use denote.Ref.{now}
 use Rattle.script.specs.Line.{lineOf, frameRight}
 use Rattle.script.proofs.Frames.{frame-long}

@@ -1,0 +1,92 @@
+-- What is said fits the reply buffer: for a caller of `speak`.
+--
+--   window-fits, range-fits, count-fits, block-fits
+--                  a saying whose page or counter number passed its checks, in a buffer of the size that a frame needs
+--   decided-fits   what any frame comes to, in the buffer that the frame was judged with
+--   ours-fits      the same for this tag's map
+--
+-- A block behind a byte is 19 bytes with its CRC_A, so these laws ask for a map of five pages or more.
+-- Assumes nothing.
+use mathlib.Core.Path.{_≡_, refl}
+use mathlib.Core.Bool.{Bool, true, false, _||_, cond}
+use mathlib.Core.List.{List}
+use Prim.Native.Nat.{ℕ, zero, suc, _+_, _≤_}
+use native.Mathlib.Omega.{arith}
+use borrow.Author.Tests.{ltb-false}
+use lib.Dec.{ltb, eqb}
+use lib.ListN.{getD}
+use Rattle.model.specs.declared.Map.{Map}
+use Rattle.model.specs.declared.Tag.{Tag}
+use Rattle.model.specs.declared.Effect.{Effect}
+use Rattle.model.specs.declared.Say.the-variants.{Window, Range, Count, Block}
+use Rattle.model.specs.declared.Command.{Command}
+use Rattle.model.specs.declared.Command.the-variants.{Read, FastRead, Write, ReadCnt, IncrCnt, Authenticate, Proof, Halt}
+use Rattle.model.specs.Map.{mf0aes20, replySize, lastPage}
+use Rattle.model.specs.Numbers.{numberIf, kept, refused, answered, acknowledged}
+use Rattle.model.specs.Reading.{readBarred, readNumber, fastReadNumber}
+use Rattle.model.specs.Authentication.{challenged, proved}
+use Rattle.model.specs.Frame.{commandNumber, commandDone, halted, frameNumber, notDone, decide}
+use Rattle.bits.proofs.Neither.{neither-right}
+use Rattle.model.proofs.Numbers.{decide-not}
+use Rattle.model.proofs.Misfit.{fits-room}
+use Rattle.model.proofs.Carried.{first-zero, numberIf-zero, carried}
+use Rattle.reply.specs.Speaking.{saidSize}
+
+module _ (m : Map) (room : ℕ) (big : replySize m ≤ room) where
+  pub window-fits : (p : ℕ) → p + 3 ≤ lastPage m → saidSize (Window p) ≤ room
+  window-fits p h = omega arith
+
+  pub range-fits : (p q : ℕ) → 1 ≤ m .pages → q ≤ lastPage m → saidSize (Range p q) ≤ room
+  range-fits p q some h = omega arith
+
+  pub count-fits : (n : ℕ) → 1 ≤ m .pages → saidSize (Count n) ≤ room
+  count-fits n some = omega arith
+
+  pub block-fits : (b : ℕ) → 5 ≤ m .pages → saidSize (Block b) ≤ room
+  block-fits b five = omega arith
+
+module _ (m : Map) (tag : Tag) (s f random : List ℕ) (room : ℕ) (five : 5 ≤ m .pages) where
+  -- a command that is carried out
+  done-fits : (c : Command) → commandNumber c m tag s f ≡ 0 → replySize m ≤ room → saidSize (commandDone c m tag s f random .say) ≤ room
+  unfolding commandNumber commandDone readNumber fastReadNumber answered acknowledged challenged proved halted
+  done-fits Read own big =
+      let p = getD f 1 0 in
+      let last = first-zero (numberIf (ltb (lastPage m) (p + 3)) 5) (numberIf (readBarred m (tag .state) s (p + 3)) 6) own .0 in
+      window-fits m room big p (ltb-false (lastPage m) (p + 3) (numberIf-zero (ltb (lastPage m) (p + 3)) 4 last))
+  done-fits FastRead own big =
+      let p = getD f 1 0 in
+      let q = getD f 2 0 in
+      let both = first-zero (numberIf (ltb q p || ltb (lastPage m) q) 5) (numberIf (readBarred m (tag .state) s q) 6) own .0 in
+      let last = neither-right (ltb q p) (ltb (lastPage m) q) (numberIf-zero (ltb q p || ltb (lastPage m) q) 4 both) in
+      range-fits m room big p q (omega arith) (ltb-false (lastPage m) q last)
+  done-fits Write own big = omega arith
+  done-fits ReadCnt own big = count-fits m room big (getD f 1 0) (omega arith)
+  done-fits IncrCnt own big = omega arith
+  done-fits Authenticate own big = block-fits m room big 0xaf five
+  done-fits Proof own big = block-fits m room big 0x00 five
+  done-fits Halt own big = omega arith
+
+  -- a frame that isn't says nothing or a nibble
+  not-fits : (t : Bool) (n : ℕ) (e : Effect) → saidSize (cond t (kept n tag) (refused n e) .say) ≤ room
+  unfolding kept refused
+  not-fits true n e = omega arith
+  not-fits false n e = omega arith
+
+  by-number : (n : ℕ) → frameNumber m tag s f random room ≡ n → saidSize (decide m tag s f random room .say) ≤ room
+  unfolding notDone
+  by-number zero h =
+      let c = carried m tag s f random room h in
+      rw (c .decided) (done-fits (c .command) (c .own) (fits-room m tag s random room (c .fits)))
+  by-number (suc n) h =
+      rw (decide-not m tag s f random room (λ z. omega arith))
+      (not-fits (eqb (frameNumber m tag s f random room) 1 || eqb (frameNumber m tag s f random room) 10) _ _)
+
+  pub decided-fits : saidSize (decide m tag s f random room .say) ≤ room
+  decided-fits = by-number (frameNumber m tag s f random room) refl
+
+five : 5 ≤ mf0aes20 .pages
+unfolding mf0aes20
+five = omega arith
+
+pub ours-fits : (tag : Tag) (s f random : List ℕ) (room : ℕ) → saidSize (decide mf0aes20 tag s f random room .say) ≤ room
+ours-fits tag s f random room = decided-fits mf0aes20 tag s f random room five

@@ -1,0 +1,4 @@
+pub mod Answers
+pub mod Made
+pub mod Steps
+pub mod Demands

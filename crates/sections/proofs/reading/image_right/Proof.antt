@@ -1,0 +1,19 @@
+-- `sections::reading::image_right` meets its contract: the tests are the definition's.
+-- Assumes nothing.
+use borrow.Author.Needs.{needs}
+use denote.Ref.{now}
+use Rattle.sections.proofs.Sections.{right-parts}
+use Rattle.sections.proofs.reading.image_right.Statement.{statement}
+use Rattle.sections.proofs.reading.image_right.Tie as tie
+
+returns : tie.Need-returns
+returns c =
+    let failed = c .before .before in
+    let a = failed .before .before .before .args in
+    rw (c .counts-right .ensures, c .before .number2 .ensures, failed .failed-at .ensures, failed .before .image-size .ensures)
+    (right-parts (a .map) (now (a .i)))
+
+pub image-right-spec : {M : Type 1} → statement M
+image-right-spec =
+    tie.close
+    (tie.spec (λ c κs. search needs) (λ c κs. search needs) (λ c. search needs) (λ c κs. search needs) (λ c κs. search needs) returns)

@@ -1,0 +1,75 @@
+// What an image holds, and whether a file is an image (document 01, "Image file").
+use crate::sizes;
+use fields::block_of;
+use fields::number2;
+use fields::number3;
+use memory::record::HIGHEST_FAILED;
+use model::Map;
+use model::State;
+use model::Tag;
+ghost use mathlib.Core.Path.{_≡_};
+ghost use Rattle.model.specs.Record.{zeroTag};
+ghost use Rattle.model.specs.Image.{imageRight, tagOf};
+ghost use Rattle.sections.specs.Sections.{countsRight, countersOf};
+
+// Each section begins with the count of what it holds.
+fn counts_right(map: Map, i: &[u8]) -> bool
+    ensures { λ r. ⌜ r ≡ countsRight map (now (i .entry)) ⌝ }
+{
+    let pages = octets::at(i, 0);
+    let counters = octets::at(i, sizes::counters_at(map));
+    let failed = octets::at(i, sizes::failed_at(map));
+    let key = octets::at(i, sizes::key_at(map));
+    (pages == map.pages) & (counters == 3) & (failed == 1) & (key == 1)
+}
+
+// The file is an image: its length, its counts, and a failed count that a tag can have.
+pub fn image_right(map: Map, i: &[u8]) -> bool
+    ensures { λ r. ⌜ r ≡ imageRight map (now (i .entry)) ⌝ }
+{
+    let size = sizes::image_size(map);
+    let failed = number2(i, sizes::failed_at(map) + 1);
+    (i.len() == size) & counts_right(map, i) & (failed <= HIGHEST_FAILED)
+}
+
+// The three counters.
+fn counters_of(map: Map, i: &[u8]) -> [u32; 3]
+    ensures { λ r. ⌜ r ≡ countersOf map (now (i .entry)) ⌝ }
+{
+    let at = sizes::counters_at(map);
+    [number3(i, at + 1), number3(i, at + 4), number3(i, at + 7)]
+}
+
+// The tag of an image, in WAITING.
+pub fn tag_of(map: Map, i: &[u8]) -> Tag
+    ensures { λ r. ⌜ r ≡ tagOf map (now (i .entry)) ⌝ }
+{
+    let counters = counters_of(map, i);
+    let failed = number2(i, sizes::failed_at(map) + 1);
+    let originality = block_of(i, sizes::key_at(map) + 1);
+    let state = State::Waiting;
+    let challenge = [0u8; 16];
+    Tag {
+        counters,
+        failed,
+        originality,
+        state,
+        challenge,
+    }
+}
+
+// The record that is all zero, in WAITING.
+pub fn zero_tag() -> Tag
+    ensures { λ r. ⌜ r ≡ zeroTag ⌝ }
+{
+    let counters = [0u32; 3];
+    let originality = [0u8; 16];
+    let challenge = [0u8; 16];
+    Tag {
+        counters,
+        failed: 0,
+        originality,
+        state: State::Waiting,
+        challenge,
+    }
+}
