@@ -908,6 +908,17 @@ LISTS = [
     ("imageOf1024", "Failed counts of 1,024 and 65,535: 12.", [
         "notLoaded 12 (patched base (%s ∷ [])) blank" % of_place(failed(n)) for n in (1024, 65535)
     ]),
+    ("checkByte0", "Each bit of BCC0 wrong: 12.", ["notLoaded 12 (counted 4 0x%02x) blank" % (BASE[4] ^ 1 << bit) for bit in range(8)]),
+    ("checkByte1", "Each bit of BCC1 wrong: 12. One of them has 88h in it.", [
+        "notLoaded 12 (counted 9 0x%02x) blank" % (BASE[9] ^ bit) for bit in [1 << bit for bit in range(8)] + [0x88]
+    ]),
+    ("serialBytes", "A bit of each byte of the serial number wrong, under the check bytes of the right one: 12.", [
+        "notLoaded 12 (counted %d 0x%02x) blank" % (at, BASE[at] ^ 1 << at % 8) for at in (1, 2, 3, 5, 6, 7, 8)
+    ]),
+    ("zeroSerial", "A serial number of zeros has 88h and 00h for check bytes; with 00h and 88h it is 12.", [
+        "loads zeroSerialImage blank (record { number = 0; tag = held (0 ∷ 0 ∷ 0 ∷ []) 0 zeros Waiting; store = take 240 (drop 1 zeroSerialImage) })",
+        "notLoaded 12 (patched zeroSerialImage (record { from = 4; bytes = 0x00 ∷ [] } ∷ record { from = 9; bytes = 0x88 ∷ [] } ∷ [])) blank",
+    ]),
     ("loadStore", "Loading into stores of 239 and 241 bytes: 10, and with a wrong image too, as 10 comes before 12.", [
         "notLoaded 10 base (take 239 blank)", "notLoaded 10 base (blank ++ (0xff ∷ []))", "notLoaded 10 (take 270 base) (take 239 blank)",
         "notLoaded 10 (counted 0 59) (blank ++ (0xff ∷ []))",
@@ -952,6 +963,8 @@ def direct_rows():
         value("the reply to READ 04h from the base image", "pages04", "Said", of_reply(data(stored(0x04, 0x07)))[1:-1]),
         value("an image with counters, and with the highest failed count", "full", "List ℕ",
               "patched base (%s)" % " ∷ ".join([of_place(c) for c in FULL_IMAGE] + ["[]"])),
+        value("an image with a serial number of zeros, and its check bytes", "zeroSerialImage", "List ℕ",
+              "patched base (record { from = 1; bytes = %s } ∷ [])" % " ∷ ".join(["0x%02x" % b for b in hexed("000000880000000000")] + ["[]"])),
         value("the record that it holds", "fullTag challenge st", "List ℕ → State → Tag", FULL_TAG),
     ]
     joined = named_list("direct", "Direct", ["stateRows"] + [name for name, _, _ in LISTS], "++", "")

@@ -15,7 +15,8 @@ keys zero. Bytes and page numbers are in hex; counters, AUTH_LIM and the failed 
     counter 0     = 10
 
 A key is written with key byte 0 first; in the tag's pages it lies the other way round, and this program turns it. Two lines may set the same bit only if
-they agree. If a line is wrong, its number and what is wrong with it are printed, nothing is written, and the exit status is 1.
+they agree, and page 00 and page 02 may have no other check bytes than the serial number's: what is written, a tag loads. If a line is wrong, its number and
+what is wrong with it are printed, nothing is written, and the exit status is 1.
 """
 
 import sys

@@ -5,8 +5,8 @@
     tools/show_image.py IMAGE --keys         with the keys
     tools/show_image.py IMAGE --settings     a settings file, keys included, from which make_image.py makes the same bytes again
 
-If a tag would refuse the image, the first line says 'a tag answers 12' and why, and the exit status is 1. What is unusual but loads, such as a wrong check
-byte, stands at the end under Remarks.
+If a tag would refuse the image, the first lines say 'a tag answers 12' and why, such as a wrong check byte, and the exit status is 1. What is unusual but
+loads, such as a serial number that doesn't begin with 04, stands at the end under Remarks.
 """
 
 import sys

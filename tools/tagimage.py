@@ -76,6 +76,15 @@ def right_check_bytes(image):
     return check_byte(0x88, serial[:3]), check_byte(0x00, serial[3:])
 
 
+def wrong_check_bytes(image):
+    """The page of each check byte that is not the serial number's, and what is wrong with it."""
+    found = []
+    for name, page, at, right in zip(("BCC0", "BCC1"), (0x00, 0x02), (BCC0, BCC1), right_check_bytes(image)):
+        if image[at] != right:
+            found.append((page, "%s is %02X and must be %02X by the serial number" % (name, image[at], right)))
+    return found
+
+
 # ---- what a tag refuses
 
 # the length of a pipe or device that has more bytes than an image: they are not counted, since they need not end
@@ -93,7 +102,8 @@ def read_image(path):
 
 
 def refusals(image, length=None):
-    """Why a tag answers 12 to loading these bytes; nothing if it loads them (document 01, "Image file"). A longer file may be given by its start and length."""
+    """Why a tag answers 12 to loading these bytes; nothing if it loads them (document 01, "Image file"; document 02, E1). A longer file may be given by its
+    start and length."""
     length = len(image) if length is None else length
     if length != SIZE:
         words = "more than %d" % SIZE if length == ENDLESS else format(length, ",")
@@ -105,7 +115,7 @@ def refusals(image, length=None):
     failed = int.from_bytes(bytes(image[at] for at in behind("failed")), "little")
     if failed > HIGHEST_FAILED:
         found.append("the failed count is %s, above %s" % (format(failed, ","), format(HIGHEST_FAILED, ",")))
-    return found
+    return found + [words for _, words in wrong_check_bytes(image)]
 
 
 SECTION_WORDS = {"pages": "pages", "counters": "counters", "failed": "failed count", "originality": "originality key"}
@@ -443,6 +453,12 @@ class Maker:
             if not self.set[at]:
                 self.put(Claim(at, 0xFF, byte))
 
+    def judge(self):
+        """A check byte that is wrong was set by the line of its page: a tag would refuse the image."""
+        for page, words in wrong_check_bytes(self.image):
+            name = page_setting(page).name
+            self.errors.append("line %d: %s: %s" % (self.lines[name], name, words))
+
 
 def where(at):
     """A place of an image in words."""
@@ -457,9 +473,11 @@ def make(text):
     maker = Maker()
     for n, line in enumerate(text.splitlines(), 1):
         maker.line(n, line)
+    if not maker.errors:
+        maker.fill()
+        maker.judge()
     if maker.errors:
         raise Wrong("\n".join(maker.errors))
-    maker.fill()
     image = bytes(maker.image)
     if refusals(image):
         raise Wrong("\n".join(refusals(image)))
@@ -471,9 +489,6 @@ def make(text):
 def remarks(image):
     """What is unusual in an image that loads."""
     found = []
-    for name, at, right in zip(("BCC0", "BCC1"), (BCC0, BCC1), right_check_bytes(image)):
-        if image[at] != right:
-            found.append("%s is %02X, and %02X by the serial number" % (name, image[at], right))
     if image[SERIAL[0]] != 0x04:
         found.append("the serial number begins with %02X; the maker's begin with 04" % image[SERIAL[0]])
     limit, failed = SETTINGS["auth lim"].value(image), SETTINGS["failed count"].value(image)

@@ -26,7 +26,7 @@ REFUSED = {
     "8": "refused: the proof is false",
     "9": "refused: the counter would pass FFFFFFh",
     "11": "refused: too many failed logins",
-    "12": "the image is refused, or cannot be opened",
+    "12": "the image is refused, or cannot be opened; tools/show_image.py says why",
 }
 CONTROLS = {0x09: "\\t", 0x0D: "\\r", 0x5C: "\\\\"}
 KEYS = {0: ("DataProtKey", "AUTHENTICATED"), 1: ("UIDRetrKey", "TRACEABLE"), 2: ("OriginalityKey", "ACTIVE")}

@@ -119,6 +119,19 @@ def refused_images():
     return found
 
 
+def wrong_check_bytes():
+    """12, with the check bytes of a serial number of zeros exchanged too; with the right ones that number is loaded."""
+    base = read(SAMPLES, "example", "tag.image")
+    images = list(check_tools.wrong_check_bytes(base)) + [("00 and 88 for a serial number of zeros", check_tools.zero_serial(base, 0x00, 0x88))]
+    found = []
+    with tempfile.TemporaryDirectory() as folder:
+        for name, image in images:
+            found += wrong(name, program.run([write(image, folder, "image")], LINES), b"12\n")
+        path = write(check_tools.zero_serial(base, 0x88, 0x00), folder, "image")
+        found += wrong("serial number of zeros", program.run([path], b"S\nF 3a0001\n"), b"0\n0 0000008800000000\n")
+    return found
+
+
 def piped_image():
     folder = os.path.join(SAMPLES, "example")
     image = read(folder, "tag.image")
@@ -253,9 +266,12 @@ def huge_input():
 TESTS = [
     ("the oracle against the standards", check_tools.oracle_standards),
     ("the oracle against the rows of tools/cases.py", check_tools.oracle_rows),
+    ("the oracle and wrong check bytes", check_tools.oracle_check_bytes),
+    ("the oracle loads the images of the samples and logins", check_tools.images_load),
     ("samples are as tools/samples.py writes them", check_tools.samples_written),
     ("sample images are as tools/make_image.py makes them", check_tools.samples_made),
     ("images to settings and back", check_tools.round_trip),
+    ("check bytes that settings give", check_tools.check_bytes_made),
     ("wrong settings are refused with their line", check_tools.wrong_settings),
     ("what tools/show_image.py says", check_tools.shown),
     ("pictures are as tools/draw.py draws them", check_tools.pictures),
@@ -269,6 +285,7 @@ TESTS = [
     ("samples in words", check_tools.words),
     ("lines, one rule at a time", lines),
     ("refused images and missing files", refused_images),
+    ("wrong check bytes of the serial number", wrong_check_bytes),
     ("an image through a named pipe, in two halves", piped_image),
     ("200 lines, each answered before the next is written", interactive),
     *check_streams.TESTS,

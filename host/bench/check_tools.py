@@ -14,6 +14,7 @@ import program
 TOOLS = os.path.join(program.ROOT, "tools")
 sys.path.insert(0, TOOLS)
 import cases  # noqa: E402
+import logins  # noqa: E402
 import samples  # noqa: E402
 import tagimage  # noqa: E402
 
@@ -101,6 +102,49 @@ def oracle_rows():
     return found
 
 
+def loads(image):
+    """Whether the oracle loads an image."""
+    try:
+        oracle.Tag(image)
+        return True
+    except oracle.Refused:
+        return False
+
+
+def wrong_check_bytes(image):
+    """Images that differ from a right one in a check byte or in the serial number under it, each with its name."""
+    for name, at in (("BCC0", inputs.BCC0), ("BCC1", inputs.BCC1)):
+        for bits in [1 << n for n in range(8)] + [0x88, 0xFF]:
+            yield "%s xor %02X" % (name, bits), inputs.changed(image, {at: bits})
+    # taken together they would be right
+    yield "both xor 01", inputs.changed(image, {inputs.BCC0: 0x01, inputs.BCC1: 0x01})
+    for at in inputs.SERIAL_AT:
+        yield "byte %d of the image xor 01" % at, inputs.changed(image, {at: 0x01})
+
+
+def zero_serial(image, bcc0, bcc1):
+    return image[:1] + bytes([0, 0, 0, bcc0, 0, 0, 0, 0, bcc1]) + image[10:]
+
+
+def oracle_check_bytes():
+    """Each wrong bit of a check byte is refused; 88h is in BCC0 and not in BCC1, which a serial number of zeros shows."""
+    base = tagimage.stored(EXAMPLE)
+    found = [name + " is loaded" for name, image in wrong_check_bytes(base) if loads(image)]
+    return found + unless(loads(zero_serial(base, 0x88, 0x00)) and not loads(zero_serial(base, 0x00, 0x88)), "serial number of zeros")
+
+
+def images_load():
+    """The images of the samples and of the logins have right check bytes, before their lines and behind them."""
+    images = [(builder.__name__, tagimage.stored(os.path.join(samples.FOLDER, builder.__name__, "tag.image"))) for builder, _ in samples.SAMPLES]
+    for name, loaded, _, saved in logins.SESSIONS:
+        for changes in (loaded, saved):
+            image = bytearray(logins.IMAGE)
+            for data in map(bytes.fromhex, changes):
+                image[data[0]:data[0] + len(data) - 1] = data[1:]
+            images.append((name, bytes(image)))
+    return [name + ": the oracle refuses its image" for name, image in images if not loads(image)]
+
+
 # ---- samples, pictures and the guide
 
 def samples_written():
@@ -160,6 +204,7 @@ def random_image(r):
     for section in tagimage.SECTIONS.values():
         image[section.at] = section.count
     image[253] &= 0x03
+    image[tagimage.BCC0], image[tagimage.BCC1] = tagimage.right_check_bytes(image)
     return bytes(image)
 
 
@@ -229,7 +274,30 @@ WRONG_SETTINGS = [
     ("page 29 = 00 00 00 3C\nAUTH0 = 04\n", "line 2: AUTH0: page 29 in line 1 has another value for page 29 byte 3"),
     ("locked pages = 04\npage 02 = 10 48 20 00\n", "line 2: page 02: locked pages in line 1 has another value for page 02 byte 2"),
     ("DataProtKey = 000102030405060708090A0B0C0D0E0F\npage 33 = 00010203\n", "line 2: page 33: DataProtKey in line 1 has another value for page 33 byte 0"),
+    ("page 00 = 04 51 2C F0\n", "line 1: page 00: BCC0 is F0 and must be F1 by the serial number"),
+    ("page 00 = 04 51 2C 79\n", "line 1: page 00: BCC0 is 79 and must be F1 by the serial number"),
+    ("\npage 02 = 98 48 00 00\n", "line 2: page 02: BCC1 is 98 and must be 10 by the serial number"),
+    ("page 00 = 04 51 2D F1\n", "line 1: page 00: BCC0 is F1 and must be F0 by the serial number"),
+    ("page 02 = 10 48 00 00\npage 01 = 5A 93 C7 1F\n", "line 1: page 02: BCC1 is 10 and must be 11 by the serial number"),
+    ("page 02 = 10 48 00 00\nserial number = 04 51 2C 00 00 00 00\n", "line 1: page 02: BCC1 is 10 and must be 00 by the serial number"),
+    ("page 02 = 00 48 00 00\npage 00 = 04 51 2C 00\n",
+     "line 2: page 00: BCC0 is 00 and must be F1 by the serial number\nline 1: page 02: BCC1 is 00 and must be 10 by the serial number"),
 ]
+
+# settings that name the serial number or pages of it, and the first nine bytes of the pages that they give
+SERIALS = [
+    ("", "04512cf15a93c71e10"),
+    ("serial number = 00 00 00 00 00 00 00\n", "000000880000000000"),
+    ("serial number = 04 01 02 10 20 40 80\n", "0401028f10204080f0"),
+    ("page 00 = 04 51 2C F1\n", "04512cf15a93c71e10"),
+    ("page 00 = 05 51 2C F0\npage 01 = 5A 93 C7 1F\n", "05512cf05a93c71f11"),
+    ("page 01 = 00 00 00 01\npage 02 = 01 48 00 00\n", "04512cf10000000101"),
+    ("page 02 = 10 48 F0 00\nserial number = 04 51 2C 5A 93 C7 1E\n", "04512cf15a93c71e10"),
+]
+
+
+def check_bytes_made():
+    return [message for text, pages in SERIALS for message in unless(tagimage.make(text)[0][1:10].hex() == pages, "other check bytes: " + text)]
 
 
 def wrong_settings():
@@ -263,7 +331,10 @@ SHOWN = [
     (lambda i: b"\x3d" + i[1:], 1, "a tag answers 12: the count byte of the pages section is 61 and must be 60"),
     (lambda i: i[:241] + b"\x02" + i[242:], 1, "a tag answers 12: the count byte of the counters section is 2 and must be 3"),
     (lambda i: i[:252] + b"\x00\x04" + i[254:], 1, "a tag answers 12: the failed count is 1,024, above 1,023"),
-    (lambda i: i[:4] + b"\x00" + i[5:], 0, "BCC0 is 00, and F1 by the serial number"),
+    (lambda i: i[:4] + b"\x00" + i[5:], 1, "a tag answers 12: BCC0 is 00 and must be F1 by the serial number"),
+    (lambda i: i[:9] + b"\x98" + i[10:], 1, "a tag answers 12: BCC1 is 98 and must be 10 by the serial number"),
+    (lambda i: i[:1] + b"\x05" + i[2:], 1, "a tag answers 12: BCC0 is F1 and must be F0 by the serial number"),
+    (lambda i: i[:1] + b"\x05" + i[2:4] + b"\xf0" + i[5:], 0, "the serial number begins with 05; the maker's begin with 04"),
     (lambda i: i[:11] + b"\x18\x02" + i[13:], 0, "locked           pages 03-04 09"),
 ]
 
@@ -278,6 +349,7 @@ def shown():
                 f.write(change(base))
             got = tool("show_image.py", path)
             found += unless(got[0] == status and words in got[1], "exit %d: '%s' is not said" % (got[0], words))
+            found += unless(tool("show_image.py", path, "--settings")[0] == status, "--settings: exit status not %d where '%s' is said" % (status, words))
     return found + keys_hidden() + unless(tool("show_image.py", os.path.join(folder, "gone"))[0] == 1, "a missing file has exit status 0")
 
 

@@ -13,9 +13,12 @@ SEED = "kazdumera bench 1"
 
 # ---- images
 
-BASE = bytearray([60]) + bytes(240) + bytes([3]) + bytes(9) + bytes([1, 0, 0, 1]) + bytes(16)
+# a serial number of zeros has 88h for BCC0, and 00h for BCC1
+BASE = bytearray([60]) + bytes([0, 0, 0, 0x88]) + bytes(236) + bytes([3]) + bytes(9) + bytes([1, 0, 0, 1]) + bytes(16)
 COUNTS = [0, 241, 251, 254]
 FAILED_AT = 252
+SERIAL_AT = [1, 2, 3, 5, 6, 7, 8]
+BCC0, BCC1 = 4, 9
 
 
 def page_at(page):
@@ -62,7 +65,8 @@ def valid_image(r):
 
 
 def put_serial(r, image):
-    serial = bytes([0x04]) + r.randbytes(6)
+    """Most begin with the maker's 04h; others have check bytes by the same rule."""
+    serial = bytes([r.choice([0x04, 0x04, 0x04, r.randrange(256)])]) + r.choice([r.randbytes(6)] * 9 + [bytes(6)])
     bcc0 = 0x88 ^ serial[0] ^ serial[1] ^ serial[2]
     bcc1 = serial[3] ^ serial[4] ^ serial[5] ^ serial[6]
     image[page_at(0):page_at(2) + 1] = serial[:3] + bytes([bcc0]) + serial[3:] + bytes([bcc1])
@@ -84,6 +88,31 @@ def failed_too_high(r, image):
     return bytes(image)
 
 
+def changed(image, changes):
+    """An image with some bits turned: changes gives them by place."""
+    image = bytearray(image)
+    for at, bits in changes.items():
+        image[at] ^= bits
+    return bytes(image)
+
+
+def wrong_check_bit(r, image):
+    return changed(image, {r.choice([BCC0, BCC1]): 1 << r.randrange(8)})
+
+
+def wrong_check_byte(r, image):
+    """The ways in which one is worked out wrong, and a serial number that was changed without them."""
+    bit = 1 << r.randrange(8)
+    return changed(image, r.choice([
+        {BCC0: 0x88},
+        {BCC1: 0x88},
+        {BCC0: 0x88, BCC1: 0x88},
+        {BCC0: bit, BCC1: bit},
+        {r.choice([BCC0, BCC1]): r.randrange(1, 256)},
+        {r.choice(SERIAL_AT): bit},
+    ]))
+
+
 def some_image(r):
     image = valid_image(r)
     kind = r.random()
@@ -97,6 +126,8 @@ def some_image(r):
         lambda: r.randbytes(r.choice([0, 271, 271, r.randrange(600)])),
         lambda: wrong_count(r, image),
         lambda: failed_too_high(r, image),
+        lambda: wrong_check_bit(r, image),
+        lambda: wrong_check_byte(r, image),
     ])()
 
 

@@ -3,8 +3,8 @@
 
     host/bench/oracle.py IMAGE < LINES     plays the lines, as the bench program does
 
-Written from document 01, the data sheet 009, docs/DATASHEET.md and docs/DECISIONS.md (D1 to D40), and from nothing of the proved program: neither its
-definitions nor its code. It has an AES-128 and a CRC_A of its own. Python 3, no library.
+Written from document 01 with request E1 of document 02, the data sheet 009, docs/DATASHEET.md and docs/DECISIONS.md (D1 to D40), and from nothing of the
+proved program: neither its definitions nor its code. It has an AES-128 and a CRC_A of its own. Python 3, no library.
 """
 
 import os
@@ -179,6 +179,17 @@ def refuse(when, number):
         raise Refused(number)
 
 
+def check_byte(start, serial):
+    for byte in serial:
+        start ^= byte
+    return start
+
+
+def check_bytes_right(store):
+    """BCC0 and BCC1 (section 2): both end a part of the serial number, and only the first part has the cascade tag 88h before it."""
+    return store[3] == check_byte(0x88, store[0:3]) and store[8] == check_byte(0x00, store[4:8])
+
+
 def frozen(block_bits, table):
     """The bits of two lock bytes that keep their value, as the block-lock bits stand."""
     first = second = 0
@@ -199,6 +210,7 @@ class Tag:
         self.failed = int.from_bytes(image[252:254], "little")
         self.originality = bytes(image[255:271])
         refuse(self.failed > 1023, 12)
+        refuse(not check_bytes_right(self.store), 12)
         self.power()
 
     def power(self):

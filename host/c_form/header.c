@@ -47,9 +47,9 @@ static int no_counters(void) {
            kz_record_counter(record, (unsigned)-1) == 0;
 }
 
-/* the calls under the names that the library has */
+/* the calls under the names that the library has; 88h is the first check byte of a serial number of zeros */
 static int calls(void) {
-    uint8_t record[KZ_RECORD_SIZE] = {0}, store[KZ_STORE_SIZE] = {0}, image[KZ_IMAGE_SIZE] = {0}, reply[KZ_REPLY_SIZE] = {0};
+    uint8_t record[KZ_RECORD_SIZE] = {0}, store[KZ_STORE_SIZE] = {0, 0, 0, 0x88}, image[KZ_IMAGE_SIZE] = {0}, reply[KZ_REPLY_SIZE] = {0};
     const uint8_t frame[1] = {0}, random[KZ_RANDOM_SIZE] = {0};
     return kz_frame(record, sizeof record, store, sizeof store, frame, 0, random, sizeof random, reply, sizeof reply) == KZ_TAG_WAITING &&
            kz_select(record, sizeof record) == KZ_CARRIED_OUT && kz_record_state(record) == KZ_STATE_ACTIVE &&

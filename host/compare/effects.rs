@@ -3,12 +3,12 @@
 
 use crate::coverage::{state_row, Call, STATES};
 use crate::frames::{FAST_READ, INCR_CNT, PROOF, READ, READ_CNT, WRITE};
-use crate::images::COUNTER_MAX;
+use crate::images::{wrong_check_bits, CHECK_BYTES_AT, COUNTER_MAX};
 use crate::pair::{Lens, Moment};
 use crate::table::Table;
 use rust_tag::c_form::{CHALLENGED, KEY_NUMBER_AT, RECORD_LEN, STATE_AT};
 use rust_tag::rules::Rule;
-use rust_tag::tag::{State, IMAGE_LEN, REPLY_LEN};
+use rust_tag::tag::{State, IMAGE_LEN, REPLY_LEN, STORE_LEN};
 
 /// One call with all that it met and left.
 pub struct Seen<'a> {
@@ -17,6 +17,7 @@ pub struct Seen<'a> {
     pub before: &'a Moment,
     pub after: &'a Moment,
     pub frame: &'a [u8],
+    pub file: &'a [u8],
     pub rule: Rule,
 }
 
@@ -105,6 +106,17 @@ marks! {
     LongImageBuffer "image written into a longer buffer",
     LongReplyBuffer "data reply in a longer buffer",
     WrongImageAndStore "10 before 12: store and image both wrong",
+    CheckBytesAndStore "10 before 12: store and check bytes both wrong",
+    CheckBytesAndRecord "10 before 12: record buffer and check bytes both wrong",
+    ZeroSerial "image with a serial number of zeros loaded",
+    Bcc0Without88 "image refused, 88h not in BCC0",
+    Bcc1With88 "image refused, 88h in BCC1",
+    CheckBytesBoth "image refused, both check bytes wrong",
+    CheckBytesSaved "image written with wrong check bytes",
+    CheckBytesRefused "image of the store refused for its check bytes",
+    CheckBytesRead "wrong check bytes read as stored",
+    CheckBytesHidden "wrong check bytes hidden in ACTIVE under Random ID",
+    CheckByteKept "wrong BCC1 kept by a WRITE to page 02h",
 }
 
 const PAGES: usize = 0x3C;
@@ -131,6 +143,8 @@ pub struct Effects {
     lens_wrong: [u64; FRAME_LENS],
     record_lens: [[u64; 4]; 5],
     image_lens: [u64; 6],
+    /// Images refused for one bit of BCC0 or BCC1.
+    check_bits: [[u64; 8]; 2],
     /// Calls other than frames, by the state they met.
     states: [[u64; STATES.len()]; 4],
     /// Counters above FFFFFFh that made a writing or a frame 10.
@@ -155,6 +169,7 @@ impl Effects {
             lens_wrong: [0; FRAME_LENS],
             record_lens: [[0; 4]; 5],
             image_lens: [0; 6],
+            check_bits: [[0; 8]; 2],
             states: [[0; STATES.len()]; 4],
             high_counters: [[0; 3]; 2],
             new_key: [false; 2],
@@ -196,6 +211,7 @@ impl Effects {
         if seen.rule.number() == 0 {
             self.mark_if(seen.lens.file > IMAGE_LEN, Mark::LongImageBuffer);
             self.mark_if(buffer[STATE_AT] != CHALLENGED && buffer[KEY_NUMBER_AT] > 2, Mark::UnusedKeySaved);
+            self.mark_if(wrong_check_bits(&seen.before.store) != [0; 2], Mark::CheckBytesSaved);
         }
     }
 
@@ -206,6 +222,27 @@ impl Effects {
         self.mark_if(seen.rule == Rule::StoreLength && seen.lens.file != IMAGE_LEN, Mark::WrongImageAndStore);
         if seen.rule.number() == 0 {
             self.new_key = [false; 2];
+        }
+        if seen.file.len() == IMAGE_LEN {
+            self.note_check_bytes(seen, &seen.file[1..1 + STORE_LEN]);
+        }
+    }
+
+    fn note_check_bytes(&mut self, seen: &Seen, pages: &[u8]) {
+        let wrong = wrong_check_bits(pages);
+        self.mark_if(seen.rule.number() == 0 && pages[..3] == [0; 3] && pages[4..8] == [0; 4], Mark::ZeroSerial);
+        self.mark_if(seen.rule == Rule::StoreLength && wrong != [0; 2], Mark::CheckBytesAndStore);
+        self.mark_if(seen.rule == Rule::RecordLength && wrong != [0; 2], Mark::CheckBytesAndRecord);
+        if !matches!(seen.rule, Rule::CheckByte0 | Rule::CheckByte1) {
+            return;
+        }
+        self.mark_if(wrong == [0x88, 0], Mark::Bcc0Without88);
+        self.mark_if(wrong == [0, 0x88], Mark::Bcc1With88);
+        self.mark_if(wrong[0] != 0 && wrong[1] != 0, Mark::CheckBytesBoth);
+        self.mark_if(pages == seen.before.store, Mark::CheckBytesRefused);
+        for bit in 0..8 {
+            self.check_bits[0][bit] += u64::from(wrong == [1 << bit, 0]);
+            self.check_bits[1][bit] += u64::from(wrong == [0, 1 << bit]);
         }
     }
 
@@ -287,6 +324,8 @@ impl Effects {
         if seen.rule.number() != 0 {
             return;
         }
+        let hidden = state == State::Active && store[CFG_0] & 1 != 0;
+        self.mark_if(wrong_check_byte_in(store, start, end), if hidden { Mark::CheckBytesHidden } else { Mark::CheckBytesRead });
         if start <= 2 && store[CFG_0] & 1 != 0 {
             self.mark(match state {
                 State::Active => Mark::SerialHidden,
@@ -325,7 +364,10 @@ impl Effects {
         let at = 4 * usize::from(page);
         let (old, new) = (&seen.before.store[at..at + 4], &seen.after.store[at..at + 4]);
         match page {
-            0x02 => self.note_lock_bits(seen, data, 0),
+            0x02 => {
+                self.mark_if(wrong_check_bits(&seen.before.store)[1] != 0 && data[0] != old[0], Mark::CheckByteKept);
+                self.note_lock_bits(seen, data, 0);
+            }
             0x28 => self.note_lock_bits(seen, data, 2),
             0x03 => {
                 self.mark_if((0..4).any(|i| new[i] & !old[i] != 0), Mark::OtpSet);
@@ -480,6 +522,14 @@ impl Effects {
         table
     }
 
+    fn check_bytes(&self) -> Table {
+        let mut table = Table::new("Images refused for one bit");
+        for (name, counts) in ["BCC0", "BCC1"].iter().zip(self.check_bits) {
+            table.line(*name, (0..8).map(|i| (format!("bit {i}"), counts[i])));
+        }
+        table
+    }
+
     fn records(&self) -> Table {
         let mut table = Table::new("Records");
         for (call, counts) in ["Power", "Select", "Load", "Save"].iter().zip(self.states) {
@@ -496,10 +546,16 @@ impl Effects {
         for (words, &count) in MARKS.iter().zip(&self.marks) {
             table.line(*words, [(String::new(), count)]);
         }
-        vec![self.pages(), self.locks(), self.lengths(), self.records(), table]
+        vec![self.pages(), self.locks(), self.lengths(), self.check_bytes(), self.records(), table]
     }
 }
 
 fn auth0(store: &[u8]) -> u8 {
     store[CFG_0 + 3] & 0x7F
+}
+
+/// Whether a check byte in these pages is not the serial number's.
+fn wrong_check_byte_in(store: &[u8], start: u8, end: u8) -> bool {
+    let wrong = wrong_check_bits(store);
+    (0..2).any(|i| wrong[i] != 0 && (start..=end).contains(&(CHECK_BYTES_AT[i] as u8 / 4)))
 }

@@ -7,13 +7,13 @@ use crate::pair::{Lens, Pair};
 use crate::player::{Player, Step};
 use crate::random::Random;
 use rust_tag::c_form::{CHALLENGED, RECORD_LEN};
-use rust_tag::tag::{State, IMAGE_LEN};
+use rust_tag::tag::State;
 
 type Play = fn(&mut Player) -> Step;
 
-const PLAYS: [Play; 16] = [
+const PLAYS: [Play; 17] = [
     wander, wander, wander, wander, climb, lock_bits, protection, random_id, counters, keys, frame_lengths, states_and_commands, odd_records,
-    odd_lengths, files, readings,
+    odd_lengths, files, readings, check_bytes,
 ];
 
 /// Plays the episode of this seed.
@@ -434,9 +434,7 @@ fn files(p: &mut Player) -> Step {
                 p.awake()?;
                 p.made(frames::write)?;
                 p.made(frames::raise_counter)?;
-                p.pair.save(&mut p.r, Lens::RIGHT)?;
-                let written: [u8; IMAGE_LEN] = std::array::from_fn(|i| p.pair.file()[i]);
-                p.load(&Image(written))?;
+                p.save_and_load()?;
             }
         }
         p.awake()?;
@@ -459,6 +457,27 @@ fn readings(p: &mut Player) -> Step {
             3 => p.send(&[FAST_READ, 0x00, 0x3B])?,
             _ => p.send(&[FAST_READ, start, end])?,
         };
+    }
+    Ok(())
+}
+
+/// Wrong check bytes in the store: frames send and keep them as they are, a writing takes them into the image, and only a loading refuses
+/// them. The plays behind this one go on with what is left.
+fn check_bytes(p: &mut Player) -> Step {
+    if p.r.chance(70) {
+        fresh(p, |r, image| image.set(0x29, 0, &[r.pick(&[0, 0, 1])]))?;
+    }
+    for _ in 0..4 {
+        p.forge_serial();
+        p.some_login()?;
+        p.awake()?;
+        let start = p.r.below(3) as u8;
+        if p.r.chance(50) { p.send(&[READ, start])? } else { p.send(&[FAST_READ, start, 0x02])? };
+        p.awake()?;
+        let data = [p.r.byte(), p.r.byte(), p.r.few_bits(), p.r.few_bits()];
+        p.write(0x02, data)?;
+        p.made(frames::usual)?;
+        if p.r.chance(70) { p.save_and_load()? } else { p.save()? }
     }
     Ok(())
 }

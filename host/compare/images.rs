@@ -11,6 +11,27 @@ const KEY_AT: usize = 255;
 
 pub const COUNTER_MAX: u32 = 0xFF_FFFF;
 
+/// Offsets of the check bytes in the store, BCC0 and BCC1; an image has its count before them.
+pub const CHECK_BYTES_AT: [usize; 2] = [3, 8];
+const SERIAL_AT: [usize; 7] = [0, 1, 2, 4, 5, 6, 7];
+
+/// BCC0 and BCC1 of the serial number in a store (009 8.5.1).
+fn right_check_bytes(store: &[u8]) -> [u8; 2] {
+    [0x88 ^ store[0] ^ store[1] ^ store[2], store[4] ^ store[5] ^ store[6] ^ store[7]]
+}
+
+pub fn put_check_bytes(store: &mut [u8]) {
+    for (at, byte) in CHECK_BYTES_AT.into_iter().zip(right_check_bytes(store)) {
+        store[at] = byte;
+    }
+}
+
+/// The bits in which each check byte of a store is wrong.
+pub fn wrong_check_bits(store: &[u8]) -> [u8; 2] {
+    let right = right_check_bytes(store);
+    std::array::from_fn(|i| store[CHECK_BYTES_AT[i]] ^ right[i])
+}
+
 /// An image that a tag can have, if its counts are left alone.
 #[derive(Clone)]
 pub struct Image(pub [u8; IMAGE_LEN]);
@@ -56,12 +77,16 @@ impl Image {
         image
     }
 
+    /// Most serial numbers begin with the maker's 04h; others have check bytes by the same rule.
     fn put_serial(&mut self, r: &mut Random) {
-        let s = r.bytes(6);
-        let check_0 = 0x88 ^ 0x04 ^ s[0] ^ s[1];
-        self.set(0x00, 0, &[0x04, s[0], s[1], check_0]);
-        self.set(0x01, 0, &s[2..6]);
-        self.set(0x02, 0, &[s[2] ^ s[3] ^ s[4] ^ s[5]]);
+        // the byte between its parts is BCC0's
+        let mut serial = [0; 8];
+        if r.chance(90) {
+            r.fill(&mut serial);
+        }
+        serial[0] = r.pick(&[0x04, 0x04, 0x04, serial[0]]);
+        self.set(0x00, 0, &serial);
+        put_check_bytes(&mut self.0[1..]);
     }
 
     /// Puts bytes into a page, from its byte `from` on.
@@ -105,10 +130,28 @@ pub fn config_1(r: &mut Random, failed: u16) -> [u8; 4] {
     [bits, 0x05, limit[0], limit[1] | r.pick(&[0, 0, 0xFC])]
 }
 
-/// A file that no tag has: another length, another count, a failed count that is too high.
+/// Makes right check bytes wrong: by a single bit in most cases, by 88h where it doesn't belong or is missing, by the same bits in both, or
+/// by another serial number above them.
+pub fn spoil_serial(r: &mut Random, store: &mut [u8]) {
+    let [bcc0, bcc1] = CHECK_BYTES_AT;
+    let (one, bit, any) = (r.pick(&CHECK_BYTES_AT), 1 << r.below(8), 1 + r.below(255) as u8);
+    match r.below(8) {
+        0..=3 => store[one] ^= bit,
+        4 => store[one] ^= 0x88,
+        5 => store[one] ^= any,
+        6 => {
+            let bits = r.pick(&[bit, 0x88]);
+            store[bcc0] ^= bits;
+            store[bcc1] ^= bits;
+        }
+        _ => store[r.pick(&SERIAL_AT)] ^= any,
+    }
+}
+
+/// A file that no tag has: another length, another count, a failed count that is too high, check bytes of another serial number.
 pub fn refused(r: &mut Random) -> Vec<u8> {
     let mut image = Image::wild(r).0.to_vec();
-    match r.below(5) {
+    match r.below(6) {
         0 => image.truncate(r.pick(&[0, 1, 241, 251, 254, 270])),
         1 => image.truncate(r.below(IMAGE_LEN)),
         2 => {
@@ -120,6 +163,7 @@ pub fn refused(r: &mut Random) -> Vec<u8> {
             let any = r.byte();
             image[at] = r.pick(&[0, image[at] - 1, image[at] + 1, 0xFF, any]);
         }
+        4 => spoil_serial(r, &mut image[1..1 + STORE_LEN]),
         _ => {
             let any = 1024 + r.below(65536 - 1024) as u16;
             let count = r.pick(&[1024, 0xFFFF, 0x0400, 0x8000, any]);

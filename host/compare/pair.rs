@@ -237,7 +237,8 @@ impl Pair {
             return Err(self.difference(answer, rule, of_library));
         }
         let after = self.moment();
-        let seen = Seen { call, lens, before: &before, after: &after, frame: self.rust.frame.part(lens.frame), rule };
+        let (frame, file) = (self.rust.frame.part(lens.frame), self.rust.file.part(lens.file));
+        let seen = Seen { call, lens, before: &before, after: &after, frame, file, rule };
         match call {
             Call::Frame => self.coverage.note_frame(before.record.state, seen.frame, rule),
             _ => self.coverage.note(call, rule),

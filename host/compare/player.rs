@@ -1,12 +1,12 @@
 //! A tester with both tags in front of it: single steps from which `episodes.rs` makes its plays.
 
 use crate::frames::{self, with_crc, AUTHENTICATE};
-use crate::images::Image;
+use crate::images::{self, Image};
 use crate::pair::{Difference, Lens, Pair};
 use crate::random::Random;
 use rust_tag::aes::{Aes128, Block, BLOCK};
 use rust_tag::c_form::{CHALLENGE_AT, FAILED_AT, KEY_NUMBER_AT, STATE_AT};
-use rust_tag::tag::{State, REPLY_LEN};
+use rust_tag::tag::{State, IMAGE_LEN, REPLY_LEN};
 
 pub type Step = Result<(), Difference>;
 
@@ -40,6 +40,13 @@ impl Player<'_> {
         let any = 271 + self.r.below(300);
         let file = self.r.pick(&[271, 271, 272, 542, any]);
         self.pair.save(&mut self.r, Lens { file, ..Lens::RIGHT }).map(drop)
+    }
+
+    /// Writes an image and loads it again. It is refused if the check bytes in the store were changed behind the tag's back.
+    pub fn save_and_load(&mut self) -> Step {
+        self.pair.save(&mut self.r, Lens::RIGHT)?;
+        let written: [u8; IMAGE_LEN] = std::array::from_fn(|i| self.pair.file()[i]);
+        self.load(&Image(written))
     }
 
     // ---- frames
@@ -137,6 +144,14 @@ impl Player<'_> {
     pub fn forge_page(&mut self, page: usize, from: usize, bytes: &[u8]) {
         let mut store = self.pair.view().store.to_vec();
         store[4 * page + from..4 * page + from + bytes.len()].copy_from_slice(bytes);
+        self.pair.put_store(&store);
+    }
+
+    /// Check bytes that are not the serial number's, behind the tag's back.
+    pub fn forge_serial(&mut self) {
+        let mut store = self.pair.view().store.to_vec();
+        images::put_check_bytes(&mut store);
+        images::spoil_serial(&mut self.r, &mut store);
         self.pair.put_store(&store);
     }
 }

@@ -24,7 +24,7 @@ use Rattle.model.specs.Authentication.{pageKey, keyOf, rotated, limitReached, r
 use Rattle.model.specs.Authentication.{proofFirst, proofSecond, sameBytes, proofNumber, proved}
 use Rattle.model.specs.Frame.{misfit, commandNumber, halted, commandDone, frameNumber, notDone, decide, saidOf}
 use Rattle.model.specs.Frame.{countersAfter, failedAfter, storeAfter, tagAfter, frame}
-use Rattle.model.specs.Image.{imageOf, imageRight, tagOf, storeOf, loadNumber, load, saveNumber, save}
+use Rattle.model.specs.Image.{imageOf, checkBytesRight, imageRight, tagOf, storeOf, loadNumber, load, saveNumber, save}
 use Rattle.model.specs.Calls.{step}
 use Rattle.model.specs.CaseImages.{patched, base}
 use Rattle.model.specs.CaseForm.{sameSaid, sameState, storedRight, leftRight, lineRight, playedRight, caseRight, allRight}
@@ -52,7 +52,7 @@ unfolding bitOf oneWay crcBit crcBits crcByte crcFrom crcA onAir withCrc
     counterBarred readCntNumber incrCntNumber
     pageKey keyOf rotated limitReached raised lowered challengeNumber challenged proofFirst proofSecond sameBytes proofNumber proved
     misfit commandNumber halted commandDone frameNumber notDone decide saidOf countersAfter failedAfter storeAfter tagAfter frame
-    imageOf imageRight tagOf storeOf loadNumber load saveNumber save step patched base
+    imageOf checkBytesRight imageRight tagOf storeOf loadNumber load saveNumber save step patched base
     sameSaid sameState storedRight leftRight lineRight playedRight caseRight allRight
     frameCases readingCases lockCases pairLockCases settingCases counterCases loginCases themeCases
     sameTag directRight allDirectRight stateRows direct

@@ -33,7 +33,7 @@ use Rattle.model.specs.Authentication.{pageKey, keyOf, rotated, limitReached, r
 use Rattle.model.specs.Authentication.{proofFirst, proofSecond, sameBytes, proofNumber, proved}
 use Rattle.model.specs.Frame.{misfit, commandNumber, commandDone, frameNumber, notDone, decide, saidOf}
 use Rattle.model.specs.Frame.{countersAfter, failedAfter, storeAfter, tagAfter, frame}
-use Rattle.model.specs.Image.{imageRight, tagOf, storeOf, loadNumber, load}
+use Rattle.model.specs.Image.{checkBytesRight, imageRight, tagOf, storeOf, loadNumber, load}
 use Rattle.model.specs.CaseImages.{patched, base}
 use Rattle.model.specs.FieldClaims.{oneWayBits}
 use Rattle.cases.specs.Samples.{ridImage, challengedTag, rndA, proofFrame, SetBitMet, ReadCntMet, RandomIdMet, ProofMet}
@@ -57,7 +57,7 @@ unfolding bitOf oneWay crcBit crcBits crcByte crcFrom crcA onAir withCrc
     counterBarred readCntNumber incrCntNumber
     pageKey keyOf rotated limitReached raised lowered challengeNumber challenged proofFirst proofSecond sameBytes proofNumber proved
     misfit commandNumber commandDone frameNumber notDone decide saidOf countersAfter failedAfter storeAfter tagAfter frame
-    imageRight tagOf storeOf loadNumber load patched base oneWayBits
+    checkBytesRight imageRight tagOf storeOf loadNumber load patched base oneWayBits
 computed = ((refl, refl, refl), refl)
 
 pub set-bit-met : SetBitMet
@@ -85,7 +85,7 @@ unfolding bitOf oneWay crcBit crcBits crcByte crcFrom crcA onAir withCrc
     counterBarred readCntNumber incrCntNumber
     pageKey keyOf rotated limitReached raised lowered challengeNumber challenged proofFirst proofSecond sameBytes proofNumber proved
     misfit commandNumber commandDone frameNumber notDone decide saidOf countersAfter failedAfter storeAfter tagAfter frame
-    imageRight tagOf storeOf loadNumber load patched base oneWayBits
+    checkBytesRight imageRight tagOf storeOf loadNumber load patched base oneWayBits
 random-id-met = (refl, refl, differs (load ridImage blank .store) 0xff, λ e. omega arith)
 
 pub proof-met : ProofMet
@@ -100,7 +100,7 @@ unfolding bitOf oneWay crcBit crcBits crcByte crcFrom crcA onAir withCrc
     counterBarred readCntNumber incrCntNumber
     pageKey keyOf rotated limitReached raised lowered challengeNumber challenged proofFirst proofSecond sameBytes proofNumber proved
     misfit commandNumber commandDone frameNumber notDone decide saidOf countersAfter failedAfter storeAfter tagAfter frame
-    imageRight tagOf storeOf loadNumber load patched base oneWayBits
+    checkBytesRight imageRight tagOf storeOf loadNumber load patched base oneWayBits
 proof-met = (
   record {
     challenged = refl;

@@ -35,7 +35,7 @@ use Rattle.model.specs.Authentication.{proofFirst, proofSecond, sameBytes, proo
 use Rattle.model.specs.Frame.{misfit, commandNumber, halted, commandDone, frameNumber, notDone, decide, saidOf}
 use Rattle.model.specs.Frame.{countersAfter, failedAfter, storeAfter, tagAfter}
 use Rattle.model.specs.Frame as frame′
-use Rattle.model.specs.Image.{imageRight, tagOf, storeOf, loadNumber, load}
+use Rattle.model.specs.Image.{checkBytesRight, imageRight, tagOf, storeOf, loadNumber, load}
 use Rattle.model.specs.Calls.{frame, boundary, refuses, step, Bytes, Fit}
 use Rattle.model.specs.CaseImages.{base}
 use Rattle.cases.specs.Struck.{sending, StruckRight, RandomKept, SampleMeetsAll}
@@ -52,7 +52,7 @@ unfolding bitOf oneWay crcBit crcBits crcByte crcFrom crcA onAir withCrc
     counterBarred readCntNumber incrCntNumber
     pageKey keyOf rotated limitReached raised lowered challengeNumber challenged proofFirst proofSecond sameBytes proofNumber proved
     misfit commandNumber halted commandDone frameNumber notDone decide saidOf countersAfter failedAfter storeAfter tagAfter frame′.frame
-    imageRight tagOf storeOf loadNumber load step base boundary refuses log fates judge wakesAhead having
+    checkBytesRight imageRight tagOf storeOf loadNumber load step base boundary refuses log fates judge wakesAhead having
 computed = (((refl, refl), ((refl, refl), ((refl, refl), ((refl, refl), tt)))), refl)
 
 pub struck-right : StruckRight
@@ -80,7 +80,7 @@ sent-fits : (r : ℕ) (f : List ℕ) → T (byteTest (withCrc f)) → T (byteTes
 sent-fits r f t u = frame-fits (withCrc f) (replicate 16 r) refl t u
 
 pub sample-meets-all : SampleMeetsAll
-unfolding crcBit crcBits crcByte crcFrom crcA onAir withCrc mf0aes20 numberIf first imageRight loadNumber load base
+unfolding crcBit crcBits crcByte crcFrom crcA onAir withCrc mf0aes20 numberIf first checkBytesRight imageRight loadNumber load base
 sample-meets-all = (
   refl,
   bytes-by-test base tt,

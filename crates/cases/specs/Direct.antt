@@ -93,6 +93,10 @@ pages04 = bytes (hex 18 0x04fb1d35_05fa2442_06f92b4f_07f8325c_8919)
 abbrev pub full : List ℕ
 full = patched base (counter 0 (hex 3 0x010203) ∷ counter 1 (hex 3 0x040506) ∷ counter 2 (hex 3 0xffffff) ∷ failed (hex 2 0xff03) ∷ [])
 
+-- an image with a serial number of zeros, and its check bytes
+abbrev pub zeroSerialImage : List ℕ
+zeroSerialImage = patched base (record { from = 1; bytes = 0x00 ∷ 0x00 ∷ 0x00 ∷ 0x88 ∷ 0x00 ∷ 0x00 ∷ 0x00 ∷ 0x00 ∷ 0x00 ∷ [] } ∷ [])
+
 -- the record that it holds
 abbrev pub fullTag : List ℕ → State → Tag
 fullTag challenge st = held (0x030201 ∷ 0x060504 ∷ 0xffffff ∷ []) 1023 challenge st
@@ -179,6 +183,48 @@ imageOf1024 =
     notLoaded 12 (patched base (failed (hex 2 0x0004) ∷ [])) blank ∷
     notLoaded 12 (patched base (failed (hex 2 0xffff) ∷ [])) blank ∷ []
 
+-- Each bit of BCC0 wrong: 12.
+abbrev pub checkByte0 : List Direct
+checkByte0 =
+    notLoaded 12 (counted 4 0xf0) blank ∷
+    notLoaded 12 (counted 4 0xf3) blank ∷
+    notLoaded 12 (counted 4 0xf5) blank ∷
+    notLoaded 12 (counted 4 0xf9) blank ∷
+    notLoaded 12 (counted 4 0xe1) blank ∷
+    notLoaded 12 (counted 4 0xd1) blank ∷
+    notLoaded 12 (counted 4 0xb1) blank ∷
+    notLoaded 12 (counted 4 0x71) blank ∷ []
+
+-- Each bit of BCC1 wrong: 12. One of them has 88h in it.
+abbrev pub checkByte1 : List Direct
+checkByte1 =
+    notLoaded 12 (counted 9 0x11) blank ∷
+    notLoaded 12 (counted 9 0x12) blank ∷
+    notLoaded 12 (counted 9 0x14) blank ∷
+    notLoaded 12 (counted 9 0x18) blank ∷
+    notLoaded 12 (counted 9 0x00) blank ∷
+    notLoaded 12 (counted 9 0x30) blank ∷
+    notLoaded 12 (counted 9 0x50) blank ∷
+    notLoaded 12 (counted 9 0x90) blank ∷
+    notLoaded 12 (counted 9 0x98) blank ∷ []
+
+-- A bit of each byte of the serial number wrong, under the check bytes of the right one: 12.
+abbrev pub serialBytes : List Direct
+serialBytes =
+    notLoaded 12 (counted 1 0x06) blank ∷
+    notLoaded 12 (counted 2 0x55) blank ∷
+    notLoaded 12 (counted 3 0x24) blank ∷
+    notLoaded 12 (counted 5 0x7a) blank ∷
+    notLoaded 12 (counted 6 0xd3) blank ∷
+    notLoaded 12 (counted 7 0x47) blank ∷
+    notLoaded 12 (counted 8 0x1f) blank ∷ []
+
+-- A serial number of zeros has 88h and 00h for check bytes; with 00h and 88h it is 12.
+abbrev pub zeroSerial : List Direct
+zeroSerial =
+    loads zeroSerialImage blank (record { number = 0; tag = held (0 ∷ 0 ∷ 0 ∷ []) 0 zeros Waiting; store = take 240 (drop 1 zeroSerialImage) }) ∷
+    notLoaded 12 (patched zeroSerialImage (record { from = 4; bytes = 0x00 ∷ [] } ∷ record { from = 9; bytes = 0x88 ∷ [] } ∷ [])) blank ∷ []
+
 -- Loading into stores of 239 and 241 bytes: 10, and with a wrong image too, as 10 comes before 12.
 abbrev pub loadStore : List Direct
 loadStore =
@@ -225,7 +271,8 @@ unfoldable pub direct : List Direct
 direct =
     stateRows ++ nothingWrong ++ storeOf239 ++ storeOf241 ++ replyOf241 ++ randomOf15 ++ randomOf17 ++ counter0Above ++ counter1Above ++
     counter2Above ++ countOf1024 ++ unknownState ++ unknownKey ++ loaded ++ imageLength ++ pagesCount ++ countersCount ++ failedCount ++
-    keyCount ++ imageOf1024 ++ loadStore ++ saved ++ savedStates ++ saveBuffer ++ saveStore ++ saveRecord
+    keyCount ++ imageOf1024 ++ checkByte0 ++ checkByte1 ++ serialBytes ++ zeroSerial ++ loadStore ++ saved ++ savedStates ++ saveBuffer ++
+    saveStore ++ saveRecord
 
 abbrev pub DirectRight : Type 0
 DirectRight = T (allDirectRight direct)

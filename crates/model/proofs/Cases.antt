@@ -18,7 +18,7 @@ use Rattle.model.specs.Counters.{counterBarred, readCntNumber, incrCntNu
 use Rattle.model.specs.Authentication.{raised, sameBytes}
 use Rattle.model.specs.Frame.{misfit, commandNumber, halted, commandDone, frameNumber, notDone, decide, saidOf}
 use Rattle.model.specs.Frame.{countersAfter, failedAfter, storeAfter, tagAfter, frame}
-use Rattle.model.specs.Image.{imageOf, imageRight, tagOf, storeOf, loadNumber, load, saveNumber, save}
+use Rattle.model.specs.Image.{imageOf, checkBytesRight, imageRight, tagOf, storeOf, loadNumber, load, saveNumber, save}
 use Rattle.model.specs.Calls.{step}
 use Rattle.model.specs.CaseImages.{patched, base}
 use Rattle.model.specs.CaseForm.{sameSaid, sameState, storedRight, leftRight, lineRight, playedRight, caseRight, allRight}
@@ -33,7 +33,7 @@ unfolding bitOf oneWay crcBit crcBits crcByte crcFrom crcA onAir withCrc blockOf
     counterBarred readCntNumber incrCntNumber
     raised sameBytes
     misfit commandNumber halted commandDone frameNumber notDone decide saidOf countersAfter failedAfter storeAfter tagAfter frame
-    imageOf imageRight tagOf storeOf loadNumber load saveNumber save step patched base
+    imageOf checkBytesRight imageRight tagOf storeOf loadNumber load saveNumber save step patched base
     sameSaid sameState storedRight leftRight lineRight playedRight caseRight allRight
     cases
 cases-right = tt

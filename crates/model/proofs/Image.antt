@@ -7,6 +7,7 @@
 --   join                                   two parts of which the second begins where the first ends
 --   three-elements                         a list of three, by its elements
 --   right, right-back                      imageRight tests what Right lists
+--   check-take, check-append               the check bytes are among the first nine
 --   bounded                                the counts of a possible record are within their bounds
 --   counter-le                             three bytes give at most FFFFFFh
 --   load-right, load-zero                  a load is answered 0 just where the store's length and the image are right
@@ -34,7 +35,7 @@ use Rattle.model.specs.Map.{mf0aes20, storeSize}
 use Rattle.model.specs.Record.{zeros, counter, highestCounter, highestFailed, exists, possible, fleeting}
 use Rattle.model.specs.Numbers.{numberIf, first}
 use Rattle.model.specs.Counters.{lowFirst, fromLow}
-use Rattle.model.specs.Image.{countersAt, failedAt, keyAt, imageSize, imageOf, numberAt, imageRight, tagOf, storeOf, loadNumber, load, saveNumber, save}
+use Rattle.model.specs.Image.{countersAt, failedAt, keyAt, imageSize, imageOf, numberAt, checkBytesRight, imageRight, tagOf, storeOf, loadNumber, load, saveNumber, save}
 use Rattle.model.specs.Calls.{Bytes}
 use Rattle.model.specs.ImageClaims.{WellFormed, Sizes, LoadedWellFormed, ImageOfLoaded, ImageHolds, LoadThenSave, SaveThenLoad}
 
@@ -118,14 +119,36 @@ pub record Right (m : Map) (i : List ℕ) : Type 0 where
   pub failed : getD i (failedAt m) 0 ≡ 1
   pub key : getD i (keyAt m) 0 ≡ 1
   pub count : numberAt i (failedAt m + 1) 2 ≤ highestFailed
+  pub check : checkBytesRight (drop 1 i) ≡ true
 
 pub right : (m : Map) (i : List ℕ) → imageRight m i ≡ true → Right m i
 unfolding imageRight
-right m i h = let h′ = simp and-eq-true-iff at h in omega (arith, eqb-true, leb-true)
+right m i h =
+    let h′ = simp and-eq-true-iff at h in
+    record {
+      size = omega (arith, eqb-true);
+      pages = omega (arith, eqb-true);
+      counters = omega (arith, eqb-true);
+      failed = omega (arith, eqb-true);
+      key = omega (arith, eqb-true);
+      count = omega (arith, leb-true);
+      check = h′ .1;
+    }
 
 pub right-back : (m : Map) (i : List ℕ) → Right m i → imageRight m i ≡ true
 unfolding imageRight
-right-back m i r = simp and-eq-true-iff (omega (arith, eq-eqb, le-leb))
+right-back m i r = simp and-eq-true-iff (omega (arith, eq-eqb, le-leb), r .check)
+
+-- the check bytes are among the first nine
+pub check-take : (n : ℕ) (l : List ℕ) → 9 ≤ n → checkBytesRight (take n l) ≡ checkBytesRight l
+unfolding checkBytesRight
+check-take n l h =
+    let at : (k : ℕ) → k < 9 → getD (take n l) k 0 ≡ getD l k 0 = λ k hk. getD-take n l k 0 (omega arith) in
+    rw (at 0 (omega arith), at 1 (omega arith), at 2 (omega arith), at 3 (omega arith), at 4 (omega arith))
+    (rw (at 5 (omega arith), at 6 (omega arith), at 7 (omega arith), at 8 (omega arith)))
+
+pub check-append : (s r : List ℕ) → 9 ≤ length s → checkBytesRight (s ++ r) ≡ checkBytesRight s
+check-append s r h = sym (check-take (length s) (s ++ r) h) ∙ ap checkBytesRight (take-at s r (length s) refl)
 
 pub record Bounded (tag : Tag) : Type 0 where
   pub first : counter tag 0 ≤ highestCounter
@@ -193,6 +216,7 @@ module _ (i : List ℕ) (h : Bytes i) where
     three = refl;
     bounded = tag-possible mf0aes20 r;
     key = block-bytes i (keyAt mf0aes20 + 1) h;
+    check = check-take (storeSize mf0aes20) (drop 1 i) (omega (arith, sizes .0)) ∙ r .check;
   }
 
 -- ---- what the image of a tag holds
@@ -229,7 +253,8 @@ module _ (m : Map) (tag : Tag) (s : List ℕ) (size : length s ≡ storeSize m) 
   unfolding storeOf
   store-held = rw image-behind (take-at s (behind tag) (storeSize m) size)
 
-  module _ (three : length (tag .counters) ≡ 3) (b : Bounded tag) (sixteen : length (tag .originality) ≡ 16) where
+  module _ (three : length (tag .counters) ≡ 3) (b : Bounded tag) (sixteen : length (tag .originality) ≡ 16) (nine : 9 ≤ length s)
+      (check : checkBytesRight s ≡ true) where
     image-size : length (imageOf m tag s) ≡ imageSize m
     unfolding behind
     image-size = rw (image-behind, length-append) (omega arith)
@@ -275,12 +300,16 @@ module _ (m : Map) (tag : Tag) (s : List ℕ) (size : length s ≡ storeSize m) 
       failed = byte-behind (failedAt m) 10 (omega arith);
       key = byte-behind (keyAt m) 13 (omega arith);
       count = rw failed-held (b .failed);
+      check = ap (λ (l : List ℕ). checkBytesRight (drop 1 l)) image-behind ∙ check-append s (behind tag) nine ∙ check;
     })
 
 pub image-holds : ImageHolds
-image-holds m tag s size three p sixteen =
-    let b = bounded tag p in
-    (image-right m tag s size three b sixteen, tag-held m tag s size three b sixteen, store-held m tag s size)
+image-holds m tag s size three p sixteen nine check =
+    let b = bounded tag p in (
+      image-right m tag s size three b sixteen nine check,
+      tag-held m tag s size three b sixteen nine check,
+      store-held m tag s size,
+    )
 
 -- ---- the calls
 
@@ -334,7 +363,7 @@ saved-first tag s buffer size room n =
 pub save-then-load : SaveThenLoad
 save-then-load tag s buffer other w room size =
     let i = imageOf mf0aes20 tag s in
-    let holds = image-holds mf0aes20 tag s (w .size) (w .three) (w .bounded) (w .key .sixteen) in
+    let holds = image-holds mf0aes20 tag s (w .size) (w .three) (w .bounded) (w .key .sixteen) (omega (arith, sizes .0, w .size)) (w .check) in
     let n = save-zero tag s buffer (w .size) room (w .bounded) in
     let z = load-zero i other size (holds .0) in
     let l = load-done i other z in

@@ -3,6 +3,7 @@
 --     countersAt m, failedAt m, keyAt m    where the count bytes of the sections behind the pages stand
 --     imageSize m                          bytes of an image                                     271
 --     imageOf m tag s                      the image of a tag
+--     checkBytesRight s                    the check bytes of the serial number are right         009 8.5.1
 --     imageRight m i                       a file that is an image                               else 12
 --     tagOf m i, storeOf m i               the tag and the store that an image holds
 --     load i s, save tag s i               the two calls
@@ -11,6 +12,7 @@
 use mathlib.Core.List.{List, [], _∷_, _++_}
 use mathlib.Core.Bool.{Bool, not, _&&_, _||_, cond}
 use Prim.Native.Nat.{ℕ, _+_}
+use lib.Bits.{bitXor}
 use lib.Dec.{ltb, leb, eqb}
 use lib.ListN.{length, getD, take, drop}
 use lib.Seq.{sets}
@@ -46,11 +48,19 @@ imageOf m tag s =
 abbrev pub numberAt : List ℕ → ℕ → ℕ → ℕ
 numberAt i at n = fromLow (take n (drop at i))
 
+-- BCC0, store byte 3, is 88h xor SN0 xor SN1 xor SN2, and BCC1, store byte 8, is SN3 xor SN4 xor SN5 xor SN6
+unfoldable pub checkBytesRight : List ℕ → Bool
+checkBytesRight s =
+    eqb (getD s 3 0) (bitXor (bitXor (bitXor 0x88 (getD s 0 0)) (getD s 1 0)) (getD s 2 0))
+    && eqb (getD s 8 0) (bitXor (bitXor (bitXor (getD s 4 0) (getD s 5 0)) (getD s 6 0)) (getD s 7 0))
+
+-- the pages stand behind the first count
 unfoldable pub imageRight : Map → List ℕ → Bool
 imageRight m i =
     eqb (length i) (imageSize m) && eqb (getD i 0 0) (m .pages) && eqb (getD i (countersAt m) 0) 3 && eqb (getD i (failedAt m) 0) 1
     && eqb (getD i (keyAt m) 0) 1
     && leb (numberAt i (failedAt m + 1) 2) highestFailed
+    && checkBytesRight (drop 1 i)
 
 -- a loaded tag begins in WAITING, with no challenge
 unfoldable pub tagOf : Map → List ℕ → Tag

@@ -5,7 +5,7 @@
 --     LoadedWellFormed     an image of bytes, loaded, gives a well-formed tag
 --     LoadedWaiting        loading leaves WAITING and no challenge
 --     ImageOfLoaded        the image of what a right image of bytes holds is that image, for every map
---     ImageHolds           the image of a tag's record and store is right and holds them, for every map
+--     ImageHolds           the image of a tag's record and store with right check bytes is right and holds them, for every map
 --     LoadThenSave         a loaded tag is saved as the image it was loaded from
 --     SaveThenLoad         a well-formed tag, saved and loaded, has all its stored memory again
 --
@@ -22,7 +22,7 @@ use Rattle.model.specs.declared.Tag.{Tag}
 use Rattle.model.specs.declared.State.the-variants.{Waiting}
 use Rattle.model.specs.Map.{mf0aes20, storeSize, replySize, lastPage, longestFrame}
 use Rattle.model.specs.Record.{zeros, possible, fleeting}
-use Rattle.model.specs.Image.{countersAt, failedAt, keyAt, imageSize, imageOf, imageRight, tagOf, storeOf, load, save}
+use Rattle.model.specs.Image.{countersAt, failedAt, keyAt, imageSize, imageOf, checkBytesRight, imageRight, tagOf, storeOf, load, save}
 use Rattle.model.specs.Calls.{Bytes}
 
 -- the counters and the failed count within their bounds are part of a possible record
@@ -32,6 +32,7 @@ pub record WellFormed (tag : Tag) (s : List ℕ) : Type 0 where
   pub three : length (tag .counters) ≡ 3
   pub bounded : possible tag ≡ true
   pub key : IsBlock (tag .originality)
+  pub check : checkBytesRight s ≡ true
 
 abbrev pub Sizes : Type 0
 Sizes =
@@ -52,7 +53,7 @@ ImageOfLoaded = (m : Map) (i : List ℕ) → Bytes i → imageRight m i ≡ true
 abbrev pub ImageHolds : Type 0
 ImageHolds =
     (m : Map) (tag : Tag) (s : List ℕ) → length s ≡ storeSize m → length (tag .counters) ≡ 3 → possible tag ≡ true
-    → length (tag .originality) ≡ 16 → let i = imageOf m tag s in
+    → length (tag .originality) ≡ 16 → 9 ≤ length s → checkBytesRight s ≡ true → let i = imageOf m tag s in
     (imageRight m i ≡ true) × (tagOf m i ≡ fleeting Waiting zeros tag) × (storeOf m i ≡ s)
 
 -- the image fills the first bytes of the buffer, and the others stay

@@ -299,7 +299,7 @@ load-can-be-made κs b s i =
 
 -- a loading answered 0: the image that the bench cases start from, into zero buffers
 base-right : tag-image.imageRight mf0aes20 base ≡ true
-unfolding tag-image.imageRight mf0aes20 base
+unfolding tag-image.checkBytesRight tag-image.imageRight mf0aes20 base
 base-right = refl
 
 pub load-answered : (κs : Lfts 3) → (l : Loading) × (l .number ≡ 0)

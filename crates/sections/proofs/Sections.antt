@@ -1,6 +1,7 @@
 -- Laws of an image's parts, as the code reads and writes them.
 --
---   right-parts                 imageRight tests the length, the counts of the sections, and the failed count
+--   right-parts                 imageRight tests the length, the counts of the sections, the failed count and the check bytes
+--   check-places                the check bytes by their places in the image
 --   sections                    an image laid section by section
 --
 -- Assumes nothing.
@@ -9,29 +10,43 @@ use mathlib.Core.List.{List, _∷_, _++_}
 use mathlib.Core.Bool.{Bool, true, false, _&&_}
 use Prim.Native.Nat.{ℕ, _+_}
 use native.Mathlib.Omega.{arith}
+use lib.Bits.{bitXor}
 use lib.Dec.{leb, eqb}
-use lib.ListN.{length, getD, length-append}
-use lib.Seq.{sets}
+use lib.ListN.{length, getD, drop, length-append}
+use lib.Seq.{sets, getD-drop}
 use Rattle.octets.proofs.Laid.{sets-append}
 use Rattle.model.specs.declared.Map.{Map}
 use Rattle.model.specs.declared.Tag.{Tag}
 use Rattle.model.specs.Map.{storeSize}
 use Rattle.model.specs.Record.{highestFailed}
 use Rattle.model.specs.Counters.{lowFirst}
-use Rattle.model.specs.Image.{countersAt, failedAt, keyAt, imageSize, imageOf, numberAt, imageRight}
+use Rattle.model.specs.Image.{countersAt, failedAt, keyAt, imageSize, imageOf, numberAt, checkBytesRight, imageRight}
 use Rattle.sections.specs.Sections.{countsRight, countersSection}
 
-regroup : (a b c d e f : Bool) → a && (b && c && d && e) && f ≡ a && b && c && d && e && f
-regroup true b c d e f = refl
-regroup false b c d e f = refl
+regroup : (a b c d e f g : Bool) → a && (b && c && d && e) && f && g ≡ a && b && c && d && e && f && g
+regroup true b c d e f g = refl
+regroup false b c d e f g = refl
 
 pub right-parts : (m : Map) (i : List ℕ)
-    → eqb (length i) (imageSize m) && countsRight m i && leb (numberAt i (failedAt m + 1) 2) highestFailed ≡ imageRight m i
+    → eqb (length i) (imageSize m) && countsRight m i && leb (numberAt i (failedAt m + 1) 2) highestFailed && checkBytesRight (drop 1 i)
+    ≡ imageRight m i
 unfolding countsRight imageRight
 right-parts m i =
     regroup (eqb (length i) (imageSize m)) (eqb (getD i 0 0) (m .pages)) (eqb (getD i (countersAt m) 0) 3) (eqb (getD i (failedAt m) 0) 1)
     (eqb (getD i (keyAt m) 0) 1)
     (leb (numberAt i (failedAt m + 1) 2) highestFailed)
+    (checkBytesRight (drop 1 i))
+
+-- the check bytes by their places in the image
+pub check-places : (i : List ℕ)
+    → eqb (getD i 4 0) (bitXor (bitXor (bitXor 0x88 (getD i 1 0)) (getD i 2 0)) (getD i 3 0))
+    && eqb (getD i 9 0) (bitXor (bitXor (bitXor (getD i 5 0) (getD i 6 0)) (getD i 7 0)) (getD i 8 0))
+    ≡ checkBytesRight (drop 1 i)
+unfolding checkBytesRight
+check-places i =
+    let at : (k : ℕ) → getD i (1 + k) 0 ≡ getD (drop 1 i) k 0 = λ k. sym (getD-drop 1 i k 0) in
+    λ j. eqb (at 3 j) (bitXor (bitXor (bitXor 0x88 (at 0 j)) (at 1 j)) (at 2 j))
+    && eqb (at 8 j) (bitXor (bitXor (bitXor (at 4 j) (at 5 j)) (at 6 j)) (at 7 j))
 
 -- one section more, behind those that are laid
 more : (b x y : List ℕ) (n : ℕ) → length x ≡ n → sets (sets b 0 x) n y ≡ sets b 0 (x ++ y)

@@ -113,5 +113,7 @@ rules! {
         FailedCount "image, count of failed counts not 1",
         KeyCount "image, count of originality keys not 1",
         ImageFailedHigh "image, failed count above 1,023",
+        CheckByte0 "BCC0 wrong",
+        CheckByte1 "BCC1 wrong",
     }
 }

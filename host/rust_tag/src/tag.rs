@@ -48,6 +48,13 @@ const LAST_READ_PAGE: u8 = 0x38;
 const KEY_BYTES: Range<usize> = at(DATA_PROT_KEY)..at(0x38);
 /// Serial number with both check bytes (8.5.1): the check bytes would give hidden serial bytes away (D9).
 const SERIAL_BYTES: Range<usize> = 0..9;
+/// The serial number lies in two parts, each with a check byte behind it (8.5.1).
+const SERIAL_LOW: Range<usize> = 0..3;
+const BCC_0: usize = 3;
+const SERIAL_HIGH: Range<usize> = 4..8;
+const BCC_1: usize = 8;
+/// The byte that goes before the first part when a reader selects the tag (Table 22), and so into BCC0 alone.
+const CASCADE_TAG: u8 = 0x88;
 
 const fn at(page: u8) -> usize {
     page as usize * PAGE_LEN
@@ -231,7 +238,18 @@ fn parse_image(mut image: &[u8]) -> Result<(&[u8], Record), Rule> {
         ..Record::ZERO
     };
     require(record.failed <= FAILED_MAX, Rule::ImageFailedHigh)?;
+    judge_serial(pages)?;
     Ok((pages, record))
+}
+
+/// Whether both check bytes are those of the serial number. Only loading asks.
+fn judge_serial(pages: &[u8]) -> Result<(), Rule> {
+    require(pages[BCC_0] == CASCADE_TAG ^ xor(&pages[SERIAL_LOW]), Rule::CheckByte0)?;
+    require(pages[BCC_1] == xor(&pages[SERIAL_HIGH]), Rule::CheckByte1)
+}
+
+fn xor(bytes: &[u8]) -> u8 {
+    bytes.iter().fold(0, |a, b| a ^ b)
 }
 
 /// A number of up to four bytes, low byte first (8.2).

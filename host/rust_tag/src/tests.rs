@@ -482,6 +482,83 @@ fn refused_images() {
     assert_eq!(short, [1; 270]);
 }
 
+/// Places of the check bytes in an image, with the rule of each.
+const CHECK_BYTES: [(usize, Rule); 2] = [(4, Rule::CheckByte0), (9, Rule::CheckByte1)];
+
+/// Refused by 12 with the store as before and the zero record, in both forms; in a store or record buffer of another length by 10.
+fn refused_for(image: &[u8], rule: Rule) {
+    let (mut record, mut store) = ([0xEE; RECORD_LEN], [9; STORE_LEN]);
+    assert_eq!(c_form::load(&mut record[..47], &mut store, image), 10);
+    assert_eq!(c_form::load(&mut record, &mut store[..239], image), 10);
+    assert_eq!(load(image, &mut store[..239]), (10, Record::ZERO));
+    assert_eq!((record, store), ([0xEE; RECORD_LEN], [9; STORE_LEN]));
+    assert_eq!(load_by_rule(image, &mut store), (rule, Record::ZERO));
+    assert_eq!((load(image, &mut store), store), ((12, Record::ZERO), [9; STORE_LEN]));
+    assert_eq!(c_form::load(&mut record, &mut store, image), 12);
+    assert_eq!((record, store), ([0; RECORD_LEN], [9; STORE_LEN]));
+}
+
+#[test]
+fn each_wrong_bit_of_a_check_byte_is_12() {
+    let image = sample_image();
+    for (at, rule) in CHECK_BYTES {
+        for bit in 0..8 {
+            let mut wrong = image.clone();
+            wrong[at] ^= 1 << bit;
+            refused_for(&wrong, rule);
+        }
+    }
+    // taken together they would be right
+    let mut both = image.clone();
+    both[4] ^= 0x10;
+    both[9] ^= 0x10;
+    refused_for(&both, Rule::CheckByte0);
+}
+
+#[test]
+fn only_bcc0_has_88h_in_it() {
+    let with_serial = |digits: &str| [&sample_image()[..1], &hex(digits), &sample_image()[10..]].concat();
+    let zeros = with_serial("000000 88 00000000 00");
+    let mut store = [9; STORE_LEN];
+    assert_eq!(load(&zeros, &mut store).0, 0);
+    assert_eq!(store[..], zeros[1..241]);
+    refused_for(&with_serial("000000 00 00000000 00"), Rule::CheckByte0);
+    refused_for(&with_serial("000000 88 00000000 88"), Rule::CheckByte1);
+    refused_for(&with_serial("000000 00 00000000 88"), Rule::CheckByte0);
+    assert_eq!(load(&with_serial("8488ff 7b 12345678 08"), &mut store).0, 0);
+}
+
+/// A serial number that is changed without its check byte.
+#[test]
+fn each_byte_of_the_serial_number_counts() {
+    for (at, rule) in (1..4).map(|at| (at, Rule::CheckByte0)).chain((5..9).map(|at| (at, Rule::CheckByte1))) {
+        for bit in 0..8 {
+            let mut wrong = sample_image();
+            wrong[at] ^= 1 << bit;
+            refused_for(&wrong, rule);
+        }
+    }
+}
+
+/// A store that was changed by another than the tag: frames send its check bytes as they are, saving keeps them, and only loading refuses.
+#[test]
+fn only_loading_judges_check_bytes() {
+    for (at, rule) in CHECK_BYTES {
+        let mut rig = Rig::new();
+        rig.store[at - 1] ^= 0x20;
+        let stored = rig.store.clone();
+        assert_eq!(rig.data("3000"), stored[..16]);
+        assert_eq!(rig.number("a204deadbeef"), 0);
+        assert_eq!(rig.login(1), 0);
+        assert_eq!(rig.data("3a0002"), stored[..12]);
+        let mut image = [0xEE; 271];
+        assert_eq!(save(&rig.record, &rig.store, &mut image), 0);
+        assert_eq!(image[1..241], rig.store[..]);
+        assert_eq!(c_form::save(&buffer_of(&rig.record), &rig.store, &mut [0; 271]), 0);
+        refused_for(&image, rule);
+    }
+}
+
 // ---- C form
 
 /// A record in ACTIVE with a byte of its own in each stored place.

@@ -8,12 +8,13 @@ use Rattle.sections.proofs.reading.image_right.Tie as tie
 
 returns : tie.Need-returns
 returns c =
-    let failed = c .before .before in
+    let counts = c .before in
+    let failed = counts .before .before in
     let a = failed .before .before .before .args in
-    rw (c .counts-right .ensures, c .before .number2 .ensures, failed .failed-at .ensures, failed .before .image-size .ensures)
-    (right-parts (a .map) (now (a .i)))
+    rw (c .check-bytes-right .ensures, counts .counts-right .ensures, counts .before .number2 .ensures)
+    (rw (failed .failed-at .ensures, failed .before .image-size .ensures) (right-parts (a .map) (now (a .i))))
 
 pub image-right-spec : {M : Type 1} → statement M
 image-right-spec =
     tie.close
-    (tie.spec (λ c κs. search needs) (λ c κs. search needs) (λ c. search needs) (λ c κs. search needs) (λ c κs. search needs) returns)
+    (tie.spec (λ c κs. search needs) (λ c κs. search needs) (λ c. search needs) (λ c κs. search needs) (λ c κs. search needs) (λ c κs. search needs) returns)
