@@ -70,6 +70,31 @@ fn timed(frame: &[u8]) -> (f64, f64) {
     best
 }
 
+/// With `--cfg before`: the library of an earlier commit beside this one's, in one run (before.sh).
+#[cfg(before)]
+mod before {
+    extern "C" {
+        fn kz_crc_a_before(frame: *const u8, length: usize) -> u16;
+    }
+
+    pub fn proved(frame: &[u8]) -> u16 {
+        unsafe { kz_crc_a_before(frame.as_ptr(), frame.len()) }
+    }
+}
+
+#[cfg(before)]
+fn print_before(frame: &[u8]) {
+    let mut best = (f64::MAX, f64::MAX);
+    for _ in 0..ROUNDS {
+        best.0 = best.0.min(nanoseconds(proved, frame));
+        best.1 = best.1.min(nanoseconds(before::proved, frame));
+    }
+    println!("CRC_A of {} bytes: now {:.0} ns, before {:.0} ns, ratio {:.2}", frame.len(), best.0, best.1, best.0 / best.1);
+}
+
+#[cfg(not(before))]
+fn print_before(_frame: &[u8]) {}
+
 fn main() -> ExitCode {
     let mut random = Random(0x9E37_79B9_7F4A_7C15);
     let mut failed = 0;
@@ -78,8 +103,10 @@ fn main() -> ExitCode {
         failed += u32::from(proved(&frame) != bit_by_bit(&frame));
     }
     for length in LENGTHS {
-        let (ours, plain) = timed(&random.bytes(length));
+        let frame = random.bytes(length);
+        let (ours, plain) = timed(&frame);
         println!("CRC_A of {length} bytes: proved {ours:.0} ns, plain Rust bit by bit {plain:.0} ns, ratio {:.2}", ours / plain);
+        print_before(&frame);
     }
     println!("{} passed, {failed} failed", CASES - failed);
     if failed == 0 { ExitCode::SUCCESS } else { ExitCode::FAILURE }

@@ -3,5 +3,5 @@
 set -eu
 cd "$(dirname "$0")/../.."
 host/library.sh crc_c
-rustc --edition 2021 -O -D warnings -L native=target/staticlib -l static=crc_c -o target/host/crc_timing host/crc_timing/main.rs
+rustc --edition 2021 -O -D warnings --check-cfg "cfg(before)" -L native=target/staticlib -l static=crc_c -o target/host/crc_timing host/crc_timing/main.rs
 target/host/crc_timing

@@ -7,6 +7,7 @@
 --   onAir-back       low byte + 256 * high byte is the CRC
 --   onAir-length     they are two
 --   withCrc-length   a frame with its CRC_A is two bytes longer
+--   shift-out        low bits that are 0 are shifted out, and nothing feeds back
 --   crcFrom-onAir    a register that meets its own two bytes ends at 0
 --   residue-is-zero  the claim ResidueIsZero of specs/CrcA.antt
 --
@@ -70,7 +71,7 @@ withCrc-length bs = length-append bs (onAir (crcA bs)) ∙ ap (λ (n : ℕ). len
 -- ---- the residue
 
 -- n low bits that are 0 are shifted out, and nothing feeds back
-shift-out : (n h : ℕ) → crcBits n (h * 2 ^ n) ≡ h
+pub shift-out : (n h : ℕ) → crcBits n (h * 2 ^ n) ≡ h
 unfolding crcBits crcBit
 shift-out zero h = omega arith
 shift-out (suc n) h = ap (crcBits n) (ap₂ feedBack (shifted-even h n) (shifted-half h n)) ∙ shift-out n h

@@ -1,1 +1,2 @@
 pub mod CrcA
+pub mod HalfBytes
