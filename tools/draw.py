@@ -237,7 +237,7 @@ EVENTS = [("Power", None), ("Select", None)] + [(words, (frame, 0)) for words, f
     ("right proof of UIDRetrKey", right_proof(1)),
     ("right proof of OriginalityKey", right_proof(2)),
     ("false proof", (FALSE_PROOF, 0)),
-    ("READ 39h, a page too high", (b"\x30\x39", 0)),
+    ("READ 3Ch, a page too high", (b"\x30\x3c", 0)),
     ("READ with a byte too many", (b"\x30\x04\x00", 0)),
     ("unknown code 60h", (b"\x60", 0)),
     ("READ 04h with a wrong CRC", (None, 0)),

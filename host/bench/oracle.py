@@ -274,26 +274,27 @@ class Tag:
 
     # reading
 
-    def shown(self, first, last):
-        data = bytearray(self.store[4 * first:4 * last + 4])
-        for i in range(len(data)):
-            at = 4 * first + i
-            hidden = at <= 8 and self.random_id() and self.state == ACTIVE
-            if hidden or 0x30 <= at // 4 <= 0x37:
-                data[i] = 0
-        return bytes(data)
+    def shown(self, pages):
+        return bytes(0 if self.hidden(at) else self.store[at] for page in pages for at in range(4 * page, 4 * page + 4))
 
-    def pages(self, first, last):
-        refuse(self.cfg_1(0x80) and self.state != AUTHENTICATED and last >= self.auth0(), 6)
-        return self.shown(first, last)
+    def hidden(self, at):
+        """A key's byte, or a byte that Random ID hides."""
+        return 0x30 <= at // 4 <= 0x37 or at <= 8 and self.random_id() and self.state == ACTIVE
+
+    def readable(self):
+        """How many pages may be read, from 00h on."""
+        return min(self.auth0(), 0x3C) if self.cfg_1(0x80) and self.state != AUTHENTICATED else 0x3C
 
     def read(self, page):
-        refuse(page > 0x38, 5)
-        return self.pages(page, page + 3)
+        """Only the first page is judged: behind the last that may be read, page 00h follows."""
+        refuse(page > 0x3B, 5)
+        refuse(page >= self.readable(), 6)
+        return self.shown([(page + n) % self.readable() for n in range(4)])
 
     def fast_read(self, first, last):
         refuse(first > last or last > 0x3B, 5)
-        return self.pages(first, last)
+        refuse(last >= self.readable(), 6)
+        return self.shown(range(first, last + 1))
 
     # writing (sections 3 to 5, 8 and 10)
 

@@ -22,7 +22,7 @@ OTHER = os.environ.get("KZ_LIB", "")
 LIBRARY = [OTHER or BUILT] + shlex.split(os.environ.get("KZ_LIBS", ""))
 STRICT = ["-Wall", "-Wextra", "-pedantic", "-Werror"]
 CHECKED = ["-std=c99", "-g", "-fsanitize=address,undefined", "-fno-sanitize-recover=undefined", "-Iinclude"] + STRICT
-SECONDS = 60
+SECONDS = 600
 
 
 def text_of(path):

@@ -61,6 +61,13 @@ marks! {
     WriteAboveAuth0 "WRITE at or above AUTH0 carried out in AUTHENTICATED",
     ReadAtAuth0 "reading up to page AUTH0 under PROT refused",
     ReadBelowAuth0 "reading up to the page below AUTH0 under PROT carried out without login",
+    ReadWrapsEnd "READ wraps at 3Bh",
+    ReadWrapsAuth0 "READ wraps at AUTH0",
+    ReadWrapsTwice "READ wraps more than once",
+    ReadOnePage "READ gives page 00h four times",
+    ReadWrapsHidden "READ wraps into hidden bytes",
+    ReadWrapsShown "READ wraps into the serial number after a login under Random ID",
+    ReadNoPage "READ 00h refused, AUTH0 00h under PROT",
     ReadOpen "reading at or above AUTH0 without PROT carried out without login",
     ReadAboveAuth0 "reading at or above AUTH0 under PROT carried out in AUTHENTICATED",
     KeysRead "key pages read",
@@ -135,6 +142,9 @@ pub struct Effects {
     protected: [u64; 64],
     locked: [u64; 64],
     read_from: [u64; 64],
+    /// READ carried out without login under PROT with AUTH0 at most 3Bh, and refused there.
+    read_limited: [u64; 64],
+    read_refused: [u64; 64],
     fast_from: [u64; 64],
     fast_to: [u64; 64],
     lock_set: [[u64; 8]; 5],
@@ -161,6 +171,8 @@ impl Effects {
             protected: [0; 64],
             locked: [0; 64],
             read_from: [0; 64],
+            read_limited: [0; 64],
+            read_refused: [0; 64],
             fast_from: [0; 64],
             fast_to: [0; 64],
             lock_set: [[0; 8]; 5],
@@ -278,7 +290,11 @@ impl Effects {
         }
         let plain = &seen.frame[..seen.frame.len().saturating_sub(2)];
         match (seen.rule.number(), plain) {
-            (0, &[READ, page]) => self.read_from[usize::from(page)] += 1,
+            (0, &[READ, page]) => self.note_window(seen, page),
+            (6, &[READ, page]) => {
+                self.read_refused[usize::from(page)] += 1;
+                self.mark_if(page == 0, Mark::ReadNoPage);
+            }
             (0, &[FAST_READ, start, end]) => {
                 self.fast_from[usize::from(start)] += 1;
                 self.fast_to[usize::from(end)] += 1;
@@ -290,7 +306,7 @@ impl Effects {
             _ => (),
         }
         match *plain {
-            [READ, page] => self.note_reading(seen, page, page.saturating_add(3)),
+            [READ, page] => self.note_reading(seen, page, page.saturating_add(3).min(last_readable(seen))),
             [FAST_READ, start, end] if start <= end => self.note_reading(seen, start, end),
             [READ_CNT, 2] if seen.rule.number() == 0 => self.note_counter_2(seen, 0x04, Mark::Counter2Read, Mark::Counter2ReadByLogin),
             _ => (),
@@ -342,6 +358,24 @@ impl Effects {
         self.mark_if(prot && end + 1 == auth0(store) && !login, Mark::ReadBelowAuth0);
     }
 
+    /// A READ that was carried out, and how often its window began again at page 00h.
+    fn note_window(&mut self, seen: &Seen, page: u8) {
+        let (last, store, state) = (last_readable(seen), &seen.before.store, seen.before.record.state);
+        self.read_from[usize::from(page)] += 1;
+        if is_limited(seen) {
+            self.read_limited[usize::from(page)] += 1;
+        }
+        let window: Vec<u8> = (0..4).map(|n| (page + n) % (last + 1)).collect();
+        let wraps = window[1..].iter().filter(|&&p| p == 0).count();
+        self.mark_if(wraps > 0 && !is_limited(seen), Mark::ReadWrapsEnd);
+        self.mark_if(wraps > 0 && is_limited(seen), Mark::ReadWrapsAuth0);
+        self.mark_if(wraps > 1, Mark::ReadWrapsTwice);
+        self.mark_if(window == [0; 4], Mark::ReadOnePage);
+        if wraps > 0 && store[CFG_0] & 1 != 0 && store[..9] != [0; 9] {
+            self.mark(if state == State::Active { Mark::ReadWrapsHidden } else { Mark::ReadWrapsShown });
+        }
+    }
+
     fn note_protection(&mut self, seen: &Seen, plain: &[u8]) {
         let (auth0, number) = (auth0(&seen.before.store), seen.rule.number());
         let login = seen.before.record.state == State::Authenticated;
@@ -351,7 +385,7 @@ impl Effects {
                 self.mark_if(number == 0 && page + 1 == auth0 && !login, Mark::WriteBelowAuth0);
                 self.mark_if(number == 0 && page >= auth0 && login, Mark::WriteAboveAuth0);
             }
-            [READ, page] => self.mark_if(number == 6 && page + 3 == auth0, Mark::ReadAtAuth0),
+            [READ, page] => self.mark_if(number == 6 && page == auth0, Mark::ReadAtAuth0),
             [FAST_READ, _, end] => self.mark_if(number == 6 && end == auth0, Mark::ReadAtAuth0),
             _ => (),
         }
@@ -494,7 +528,9 @@ impl Effects {
         table.line("WRITE carried out", cells(&self.written, (2..PAGES).collect()));
         table.line("WRITE refused by 6", cells(&self.protected, (2..PAGES).collect()));
         table.line("WRITE refused by 7", cells(&self.locked, lockable));
-        table.line("READ from", cells(&self.read_from, (0..=0x38).collect()));
+        table.line("READ from", cells(&self.read_from, (0..PAGES).collect()));
+        table.line("READ below AUTH0 under PROT from", cells(&self.read_limited, (0..0x3B).collect()));
+        table.line("READ refused by 6", cells(&self.read_refused, (0..PAGES).collect()));
         table.line("FAST_READ from", cells(&self.fast_from, (0..PAGES).collect()));
         table.line("FAST_READ to", cells(&self.fast_to, (0..PAGES).collect()));
         table
@@ -552,6 +588,17 @@ impl Effects {
 
 fn auth0(store: &[u8]) -> u8 {
     store[CFG_0 + 3] & 0x7F
+}
+
+/// Whether AUTH0 bars pages from reading: under PROT, without the login that opens them.
+fn is_limited(seen: &Seen) -> bool {
+    let store = &seen.before.store;
+    store[CFG_1] & 0x80 != 0 && seen.before.record.state != State::Authenticated && usize::from(auth0(store)) < PAGES
+}
+
+/// The last page that READ may give, where it was carried out.
+fn last_readable(seen: &Seen) -> u8 {
+    if is_limited(seen) { auth0(&seen.before.store).saturating_sub(1) } else { PAGES as u8 - 1 }
 }
 
 /// Whether a check byte in these pages is not the serial number's.

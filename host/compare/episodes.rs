@@ -11,9 +11,9 @@ use rust_tag::tag::State;
 
 type Play = fn(&mut Player) -> Step;
 
-const PLAYS: [Play; 17] = [
+const PLAYS: [Play; 18] = [
     wander, wander, wander, wander, climb, lock_bits, protection, random_id, counters, keys, frame_lengths, states_and_commands, odd_records,
-    odd_lengths, files, readings, check_bytes,
+    odd_lengths, files, readings, check_bytes, windows,
 ];
 
 /// Plays the episode of this seed.
@@ -170,6 +170,26 @@ fn protection(p: &mut Player) -> Step {
                 p.write(page, data)?;
             }
         }
+    }
+    Ok(())
+}
+
+/// READ from every page, up to AUTH0 and past it and at the end of the memory, with Random ID and without, after each login and after none.
+fn windows(p: &mut Player) -> Step {
+    let any = p.r.below(0x3D) as u8;
+    let auth0 = p.r.pick(&[any, any, any, 0x00, 0x01, 0x02, 0x03, 0x04, 0x3B, 0x3C]);
+    fresh(p, |r, image| {
+        image.set(0x03, 0, &r.bytes(4));
+        image.set(0x29, 0, &[r.pick(&[0, 1])]);
+        image.set(0x29, 3, &[auth0 | r.pick(&[0, 0x80])]);
+        image.set(0x2A, 0, &[r.pick(&[0x0C, 0x8C, 0x8C])]);
+    })?;
+    for _ in 0..12 {
+        p.some_login()?;
+        p.awake()?;
+        let (any, low) = (p.r.below(0x3D) as u8, p.r.below(4) as u8);
+        let page = p.r.pick(&[any, auth0.saturating_sub(low), 0x3B - low, low]);
+        p.send(&[READ, page])?;
     }
     Ok(())
 }

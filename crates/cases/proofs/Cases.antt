@@ -1,33 +1,14 @@
--- The bench cases: the statements of specs/Themes.antt and specs/Direct.antt, by computing every row.
+-- The bench cases: the statements of specs/Themes.antt and specs/Direct.antt, by computing every row, a theme at a time.
 --
+--   append-right                   right cases one behind the other
 --   themes-right, direct-right     the two statements
 --
 -- Assumes nothing.
-use Rattle.bits.specs.Bits.{bitOf, oneWay}
-use Rattle.crc.specs.CrcA.{crcBit, crcBits, crcByte, crcFrom, crcA, onAir, withCrc}
-use Rattle.fips197.specs.Field.{xtime, productOf, product}
-use Rattle.fips197.specs.SBox.{sBoxTable, sBox, invSBoxTable, invSBox}
-use Rattle.fips197.specs.State.{subBytes, invSubBytes, shiftRows, invShiftRows, mixColumns, invMixColumns, addRoundKey}
-use Rattle.fips197.specs.KeyExpansion.{powerOfX, nextWord, expand, keyExpansion}
-use Rattle.fips197.specs.Cipher.{round, rounds, lastRound, cipher, encipher, invRound, invRounds, invLastRound, invCipher, decipher}
-use Rattle.fips197.specs.Cbc.{xorBlock, blockOf, cbcEncipher, cbcDecipher}
-use Rattle.model.specs.Map.{mf0aes20}
-use Rattle.model.specs.Settings.{randomIdOn, auth0, readProtected, configLocked, incrOpen, readOpen, authLimit, keyLockBit}
-use Rattle.model.specs.Record.{exists, possible}
-use Rattle.model.specs.Numbers.{numberIf, first, nibbleOf, kept, refused, answered, acknowledged}
-use Rattle.model.specs.Telling.{damaged, told, allowed, toldNumber}
-use Rattle.model.specs.Reading.{readBarred, readNumber, fastReadNumber, readWindow, fastRange, hidden, shownByte, shownPages}
-use Rattle.model.specs.Writing.{auth0Bars, randomIdBars, ownLockBars, pairLockBars, keyLockBars, configLockBars, barred, writeNumber}
-use Rattle.model.specs.Writing.{freezeRows, pairFreezeRows, frozen, merged, keepOf, openedOf, written}
-use Rattle.model.specs.Counters.{counterBarred, readCntNumber, incrCntNumber}
-use Rattle.model.specs.Authentication.{pageKey, keyOf, rotated, limitReached, raised, lowered, challengeNumber, challenged}
-use Rattle.model.specs.Authentication.{proofFirst, proofSecond, sameBytes, proofNumber, proved}
-use Rattle.model.specs.Frame.{misfit, commandNumber, halted, commandDone, frameNumber, notDone, decide, saidOf}
-use Rattle.model.specs.Frame.{countersAfter, failedAfter, storeAfter, tagAfter, frame}
-use Rattle.model.specs.Image.{imageOf, checkBytesRight, imageRight, tagOf, storeOf, loadNumber, load, saveNumber, save}
-use Rattle.model.specs.Calls.{step}
-use Rattle.model.specs.CaseImages.{patched, base}
-use Rattle.model.specs.CaseForm.{sameSaid, sameState, storedRight, leftRight, lineRight, playedRight, caseRight, allRight}
+use mathlib.Core.List.{List, [], _∷_, _++_}
+use mathlib.Core.Bool.{Bool, true, false, _&&_}
+use lib.Dec.{T}
+use Rattle.model.specs.CaseForm.{Case, caseRight, allRight}
+use Rattle.model.proofs.Computing.{computing}
 use Rattle.cases.specs.Frames.{frameCases}
 use Rattle.cases.specs.Reading.{readingCases}
 use Rattle.cases.specs.Locks.{lockCases}
@@ -40,26 +21,54 @@ use Rattle.cases.specs.DirectForm.{sameTag, directRight, allDirectRight}
 use Rattle.cases.specs.States.{stateRows}
 use Rattle.cases.specs.Direct.{direct, DirectRight}
 
-computed : ThemesRight × DirectRight
-unfolding bitOf oneWay crcBit crcBits crcByte crcFrom crcA onAir withCrc
-    xtime productOf product sBoxTable sBox invSBoxTable invSBox
-    subBytes invSubBytes shiftRows invShiftRows mixColumns invMixColumns addRoundKey powerOfX nextWord expand keyExpansion
-    round rounds lastRound cipher encipher invRound invRounds invLastRound invCipher decipher xorBlock blockOf cbcEncipher cbcDecipher
-    mf0aes20 randomIdOn auth0 readProtected configLocked incrOpen readOpen authLimit keyLockBit exists possible
-    numberIf first nibbleOf kept refused answered acknowledged damaged told allowed toldNumber
-    readBarred readNumber fastReadNumber readWindow fastRange hidden shownByte shownPages
-    auth0Bars randomIdBars ownLockBars pairLockBars keyLockBars configLockBars barred writeNumber freezeRows pairFreezeRows frozen merged keepOf openedOf written
-    counterBarred readCntNumber incrCntNumber
-    pageKey keyOf rotated limitReached raised lowered challengeNumber challenged proofFirst proofSecond sameBytes proofNumber proved
-    misfit commandNumber halted commandDone frameNumber notDone decide saidOf countersAfter failedAfter storeAfter tagAfter frame
-    imageOf checkBytesRight imageRight tagOf storeOf loadNumber load saveNumber save step patched base
-    sameSaid sameState storedRight leftRight lineRight playedRight caseRight allRight
-    frameCases readingCases lockCases pairLockCases settingCases counterCases loginCases themeCases
-    sameTag directRight allDirectRight stateRows direct
-computed = (tt, tt)
+under : (x y z : Bool) → (T y → T z) → T (x && y) → T (x && z)
+under true y z f t = f t
+under false y z f t = t
+
+append-right : (a b : List Case) → T (allRight a) → T (allRight b) → T (allRight (a ++ b))
+unfolding allRight
+append-right [] b h k = k
+append-right (c ∷ cs) b h k = under (caseRight c) (allRight cs) (allRight (cs ++ b)) (λ t. append-right cs b t k) h
+
+frames-right : T (allRight frameCases)
+unfolding computing frameCases
+frames-right = tt
+
+reading-right : T (allRight readingCases)
+unfolding computing readingCases
+reading-right = tt
+
+locks-right : T (allRight lockCases)
+unfolding computing lockCases
+locks-right = tt
+
+pair-locks-right : T (allRight pairLockCases)
+unfolding computing pairLockCases
+pair-locks-right = tt
+
+settings-right : T (allRight settingCases)
+unfolding computing settingCases
+settings-right = tt
+
+counters-right : T (allRight counterCases)
+unfolding computing counterCases
+counters-right = tt
+
+logins-right : T (allRight loginCases)
+unfolding computing loginCases
+logins-right = tt
 
 pub themes-right : ThemesRight
-themes-right = computed .0
+unfolding themeCases
+themes-right =
+    append-right _ loginCases
+    (append-right _ counterCases
+    (append-right _ settingCases
+    (append-right _ pairLockCases (append-right _ lockCases (append-right _ readingCases frames-right reading-right) locks-right) pair-locks-right)
+    settings-right)
+    counters-right)
+    logins-right
 
 pub direct-right : DirectRight
-direct-right = computed .1
+unfolding computing sameTag directRight allDirectRight stateRows direct
+direct-right = tt

@@ -13,46 +13,15 @@ use lib.ListN.{length, replicate}
 use Rattle.bits.proofs.Test.{both, both-left, both-right}
 use Rattle.forget.specs.Machine.{log}
 use Rattle.forget.specs.Striking.{fates, judge, wakesAhead, having}
-use Rattle.bits.specs.Bits.{bitOf, oneWay}
-use Rattle.crc.specs.CrcA.{crcBit, crcBits, crcByte, crcFrom, crcA, onAir, withCrc}
-use Rattle.fips197.specs.Field.{xtime, productOf, product}
-use Rattle.fips197.specs.SBox.{sBoxTable, sBox, invSBoxTable, invSBox}
-use Rattle.fips197.specs.State.{subBytes, invSubBytes, shiftRows, invShiftRows, mixColumns, invMixColumns, addRoundKey}
-use Rattle.fips197.specs.KeyExpansion.{powerOfX, nextWord, expand, keyExpansion}
-use Rattle.fips197.specs.Cipher.{round, rounds, lastRound, cipher, encipher, invRound, invRounds, invLastRound, invCipher, decipher}
-use Rattle.fips197.specs.Cbc.{xorBlock, blockOf, cbcEncipher, cbcDecipher}
+use Rattle.crc.specs.CrcA.{withCrc}
 use Rattle.model.specs.Map.{mf0aes20}
-use Rattle.model.specs.Settings.{randomIdOn, auth0, readProtected, configLocked, incrOpen, readOpen, authLimit, keyLockBit}
-use Rattle.model.specs.Record.{exists, possible}
-use Rattle.model.specs.Numbers.{numberIf, first, nibbleOf, kept, refused, answered, acknowledged}
-use Rattle.model.specs.Telling.{damaged, told, allowed, toldNumber}
-use Rattle.model.specs.Reading.{readBarred, readNumber, fastReadNumber, readWindow, fastRange, hidden, shownByte, shownPages}
-use Rattle.model.specs.Writing.{auth0Bars, randomIdBars, ownLockBars, pairLockBars, keyLockBars, configLockBars, barred, writeNumber}
-use Rattle.model.specs.Writing.{freezeRows, pairFreezeRows, frozen, merged, keepOf, openedOf, written}
-use Rattle.model.specs.Counters.{counterBarred, readCntNumber, incrCntNumber}
-use Rattle.model.specs.Authentication.{pageKey, keyOf, rotated, limitReached, raised, lowered, challengeNumber, challenged}
-use Rattle.model.specs.Authentication.{proofFirst, proofSecond, sameBytes, proofNumber, proved}
-use Rattle.model.specs.Frame.{misfit, commandNumber, halted, commandDone, frameNumber, notDone, decide, saidOf}
-use Rattle.model.specs.Frame.{countersAfter, failedAfter, storeAfter, tagAfter}
-use Rattle.model.specs.Frame as frame′
-use Rattle.model.specs.Image.{checkBytesRight, imageRight, tagOf, storeOf, loadNumber, load}
-use Rattle.model.specs.Calls.{frame, boundary, refuses, step, Bytes, Fit}
+use Rattle.model.specs.Calls.{frame, boundary, refuses, Bytes, Fit}
 use Rattle.model.specs.CaseImages.{base}
+use Rattle.model.proofs.Computing.{computing}
 use Rattle.cases.specs.Struck.{sending, StruckRight, RandomKept, SampleMeetsAll}
 
 computed : StruckRight × RandomKept
-unfolding bitOf oneWay crcBit crcBits crcByte crcFrom crcA onAir withCrc
-    xtime productOf product sBoxTable sBox invSBoxTable invSBox
-    subBytes invSubBytes shiftRows invShiftRows mixColumns invMixColumns addRoundKey powerOfX nextWord expand keyExpansion
-    round rounds lastRound cipher encipher invRound invRounds invLastRound invCipher decipher xorBlock blockOf cbcEncipher cbcDecipher
-    mf0aes20 randomIdOn auth0 readProtected configLocked incrOpen readOpen authLimit keyLockBit exists possible
-    numberIf first nibbleOf kept refused answered acknowledged damaged told allowed toldNumber
-    readBarred readNumber fastReadNumber readWindow fastRange hidden shownByte shownPages
-    auth0Bars randomIdBars ownLockBars pairLockBars keyLockBars configLockBars barred writeNumber freezeRows pairFreezeRows frozen merged keepOf openedOf written
-    counterBarred readCntNumber incrCntNumber
-    pageKey keyOf rotated limitReached raised lowered challengeNumber challenged proofFirst proofSecond sameBytes proofNumber proved
-    misfit commandNumber halted commandDone frameNumber notDone decide saidOf countersAfter failedAfter storeAfter tagAfter frame′.frame
-    checkBytesRight imageRight tagOf storeOf loadNumber load step base boundary refuses log fates judge wakesAhead having
+unfolding computing boundary refuses log fates judge wakesAhead having
 computed = (((refl, refl), ((refl, refl), ((refl, refl), ((refl, refl), tt)))), refl)
 
 pub struck-right : StruckRight
@@ -80,7 +49,7 @@ sent-fits : (r : ℕ) (f : List ℕ) → T (byteTest (withCrc f)) → T (byteTes
 sent-fits r f t u = frame-fits (withCrc f) (replicate 16 r) refl t u
 
 pub sample-meets-all : SampleMeetsAll
-unfolding crcBit crcBits crcByte crcFrom crcA onAir withCrc mf0aes20 numberIf first checkBytesRight imageRight loadNumber load base
+unfolding computing
 sample-meets-all = (
   refl,
   bytes-by-test base tt,
@@ -96,7 +65,7 @@ sample-meets-all = (
             sent-fits 8 (0x1a ∷ 0x00 ∷ []) tt tt,
             (
               sent-fits 1 (0x30 ∷ 0x04 ∷ []) tt tt,
-              (sent-fits 3 (0x50 ∷ 0x00 ∷ []) tt tt, (sent-fits 2 (0x30 ∷ 0x39 ∷ []) tt tt, tt)),
+              (sent-fits 3 (0x50 ∷ 0x00 ∷ []) tt tt, (sent-fits 2 (0x30 ∷ 0x3c ∷ []) tt tt, tt)),
             ),
           ),
         ),

@@ -131,11 +131,11 @@ proofInActive = record {
   state = Waiting;
 }
 
--- READ with three bytes before its CRC: 4, with a page above 38h too.
+-- READ with three bytes before its CRC: 4, with a page above 3Bh too.
 abbrev pub readOfThree : Case
 readOfThree = record {
   image = base;
-  lines = toActive ++ (sent (hex 5 0x3004_00_da44) 4 (nibble 0x0) ∷ selected ∷ sent (hex 5 0x3039_00_0042) 4 (nibble 0x0) ∷ []);
+  lines = toActive ++ (sent (hex 5 0x3004_00_da44) 4 (nibble 0x0) ∷ selected ∷ sent (hex 5 0x303c_00_b83c) 4 (nibble 0x0) ∷ []);
   changed = [];
   state = Waiting;
 }

@@ -20,13 +20,141 @@ readSerial = record {
   state = Active;
 }
 
--- READ 3Bh and FFh: 5.
+-- READ 3Ch and FFh: 5.
 abbrev pub readPastEnd : Case
 readPastEnd = record {
   image = base;
-  lines = toActive ++ (sent (hex 4 0x303b_5227) 5 (nibble 0x0) ∷ selected ∷ sent (hex 4 0x30ff_7aa7) 5 (nibble 0x0) ∷ []);
+  lines = toActive ++ (sent (hex 4 0x303c_ed53) 5 (nibble 0x0) ∷ selected ∷ sent (hex 4 0x30ff_7aa7) 5 (nibble 0x0) ∷ []);
   changed = [];
   state = Waiting;
+}
+
+-- READ 39h, 3Ah and 3Bh continue at page 00h behind page 3Bh.
+abbrev pub readWraps : Case
+readWraps = record {
+  image = base;
+  lines =
+      toActive ++ (
+      sent (hex 4 0x3039_4004) 0 (bytes (hex 18 0x39c69513_3ac59c20_3bc4a32d_04512cf1_65e7)) ∷
+      sent (hex 4 0x303a_db36) 0 (bytes (hex 18 0x3ac59c20_3bc4a32d_04512cf1_5a93c71e_c622)) ∷
+      sent (hex 4 0x303b_5227) 0 (bytes (hex 18 0x3bc4a32d_04512cf1_5a93c71e_10480000_477e)) ∷ []);
+  changed = [];
+  state = Active;
+}
+
+-- AUTH0 04h with PROT: READ 03h, 02h and 01h continue at page 00h behind page 03h, READ 00h fits, READ 04h is 6.
+abbrev pub readWrapsAtAuth0 : Case
+readWrapsAtAuth0 = record {
+  image = patched base (page 0x03 (hex 4 0x0f1e2d3c) ∷ page 0x29 (hex 4 0x00000004) ∷ page 0x2a (hex 4 0x8c050000) ∷ []);
+  lines =
+      toActive ++ (
+      sent (hex 4 0x3003_999a) 0 (bytes (hex 18 0x0f1e2d3c_04512cf1_5a93c71e_10480000_0443)) ∷
+      sent (hex 4 0x3002_108b) 0 (bytes (hex 18 0x10480000_0f1e2d3c_04512cf1_5a93c71e_7c49)) ∷
+      sent (hex 4 0x3001_8bb9) 0 (bytes (hex 18 0x5a93c71e_10480000_0f1e2d3c_04512cf1_f292)) ∷
+      sent (hex 4 0x3000_02a8) 0 (bytes (hex 18 0x04512cf1_5a93c71e_10480000_0f1e2d3c_18af)) ∷
+      sent (hex 4 0x3004_26ee) 6 (nibble 0x0) ∷ []);
+  changed = [];
+  state = Waiting;
+}
+
+-- AUTH0 03h with PROT: READ 02h begins again at page 02h.
+abbrev pub readWrapsAt03 : Case
+readWrapsAt03 = record {
+  image = patched base (page 0x29 (hex 4 0x00000003) ∷ page 0x2a (hex 4 0x8c050000) ∷ []);
+  lines =
+      toActive ++ (
+      sent (hex 4 0x3002_108b) 0 (bytes (hex 18 0x10480000_04512cf1_5a93c71e_10480000_9392)) ∷
+      sent (hex 4 0x3000_02a8) 0 (bytes (hex 18 0x04512cf1_5a93c71e_10480000_04512cf1_8d27)) ∷ []);
+  changed = [];
+  state = Active;
+}
+
+-- AUTH0 02h with PROT: READ 01h continues at page 00h twice, READ 00h once, READ 02h is 6.
+abbrev pub readWrapsTwice : Case
+readWrapsTwice = record {
+  image = patched base (page 0x29 (hex 4 0x00000002) ∷ page 0x2a (hex 4 0x8c050000) ∷ []);
+  lines =
+      toActive ++ (
+      sent (hex 4 0x3001_8bb9) 0 (bytes (hex 18 0x5a93c71e_04512cf1_5a93c71e_04512cf1_78d4)) ∷
+      sent (hex 4 0x3000_02a8) 0 (bytes (hex 18 0x04512cf1_5a93c71e_04512cf1_5a93c71e_1368)) ∷
+      sent (hex 4 0x3002_108b) 6 (nibble 0x0) ∷ []);
+  changed = [];
+  state = Waiting;
+}
+
+-- AUTH0 01h with PROT: READ 00h gives page 00h four times, READ 01h is 6.
+abbrev pub readOnePage : Case
+readOnePage = record {
+  image = patched base (page 0x29 (hex 4 0x00000001) ∷ page 0x2a (hex 4 0x8c050000) ∷ []);
+  lines =
+      toActive ++ (
+      sent (hex 4 0x3000_02a8) 0 (bytes (hex 18 0x04512cf1_04512cf1_04512cf1_04512cf1_d504)) ∷
+      sent (hex 4 0x3001_8bb9) 6 (nibble 0x0) ∷ []);
+  changed = [];
+  state = Waiting;
+}
+
+-- AUTH0 00h with PROT: READ 00h, 38h and 3Bh are 6.
+abbrev pub readNoPage : Case
+readNoPage = record {
+  image = patched base (page 0x29 (hex 4 0x00000000) ∷ page 0x2a (hex 4 0x8c050000) ∷ []);
+  lines =
+      toActive ++ (
+      sent (hex 4 0x3000_02a8) 6 (nibble 0x0) ∷
+      selected ∷ sent (hex 4 0x3038_c915) 6 (nibble 0x0) ∷
+      selected ∷ sent (hex 4 0x303b_5227) 6 (nibble 0x0) ∷ []);
+  changed = [];
+  state = Waiting;
+}
+
+-- AUTH0 04h without PROT: READ 03h doesn't end at AUTH0, and READ 3Bh continues behind page 3Bh.
+abbrev pub readWrapsNoProt : Case
+readWrapsNoProt = record {
+  image = patched base (page 0x03 (hex 4 0x0f1e2d3c) ∷ page 0x29 (hex 4 0x00000004) ∷ []);
+  lines =
+      toActive ++ (
+      sent (hex 4 0x3003_999a) 0 (bytes (hex 18 0x0f1e2d3c_04fb1d35_05fa2442_06f92b4f_faa8)) ∷
+      sent (hex 4 0x303b_5227) 0 (bytes (hex 18 0x3bc4a32d_04512cf1_5a93c71e_10480000_477e)) ∷ []);
+  changed = [];
+  state = Active;
+}
+
+-- Random ID on, ACTIVE: READ 39h and 3Bh show the nine bytes as zeros behind page 3Bh.
+abbrev pub readWrapsRandomId : Case
+readWrapsRandomId = record {
+  image = patched base (page 0x29 (hex 4 0x0100003c) ∷ page 0x02 (hex 4 0x10481020) ∷ []);
+  lines =
+      toActive ++ (
+      sent (hex 4 0x3039_4004) 0 (bytes (hex 18 0x39c69513_3ac59c20_3bc4a32d_00000000_2320)) ∷
+      sent (hex 4 0x303b_5227) 0 (bytes (hex 18 0x3bc4a32d_00000000_00000000_00481020_8cba)) ∷ []);
+  changed = [];
+  state = Active;
+}
+
+-- The same before AUTH0 04h with PROT: READ 03h and 02h.
+abbrev pub readWrapsRandomIdAuth0 : Case
+readWrapsRandomIdAuth0 = record {
+  image =
+      patched base (
+      page 0x29 (hex 4 0x01000004) ∷
+      page 0x2a (hex 4 0x8c050000) ∷
+      page 0x02 (hex 4 0x10481020) ∷
+      page 0x03 (hex 4 0x0f1e2d3c) ∷ []);
+  lines =
+      toActive ++ (
+      sent (hex 4 0x3003_999a) 0 (bytes (hex 18 0x0f1e2d3c_00000000_00000000_00481020_cf87)) ∷
+      sent (hex 4 0x3002_108b) 0 (bytes (hex 18 0x00481020_0f1e2d3c_00000000_00000000_c941)) ∷ []);
+  changed = [];
+  state = Active;
+}
+
+-- AUTH0 38h with PROT: READ 36h shows the key pages as zeros, then pages 00h and 01h.
+abbrev pub readWrapsKeys : Case
+readWrapsKeys = record {
+  image = patched base (page 0x29 (hex 4 0x00000038) ∷ page 0x2a (hex 4 0x8c050000) ∷ []);
+  lines = toActive ++ (sent (hex 4 0x3036_b7fc) 0 (bytes (hex 18 0x00000000_00000000_04512cf1_5a93c71e_7d83)) ∷ []);
+  changed = [];
+  state = Active;
 }
 
 -- FAST_READ 3Bh to 3Ch, 3Ch to 3Ch and 00h to FFh: 5.
@@ -122,15 +250,16 @@ keyPages = record {
   state = Active;
 }
 
--- AUTH0 10h with PROT: READ 0Ch is 0, READ 0Dh with its last page at AUTH0 is 6, and so is READ 10h.
+-- AUTH0 10h with PROT: READ 0Ch ends before AUTH0, READ 0Dh and 0Fh continue at page 00h, READ 10h is 6.
 abbrev pub readAcrossAuth0 : Case
 readAcrossAuth0 = record {
   image = patched base (page 0x29 (hex 4 0x00000010) ∷ page 0x2a (hex 4 0x8c050000) ∷ []);
   lines =
       toActive ++ (
       sent (hex 4 0x300c_6e62) 0 (bytes (hex 18 0x0cf3559d_0df25caa_0ef163b7_0ff06ac4_5e83)) ∷
-      sent (hex 4 0x300d_e773) 6 (nibble 0x0) ∷
-      selected ∷ sent (hex 4 0x3010_83b8) 6 (nibble 0x0) ∷ []);
+      sent (hex 4 0x300d_e773) 0 (bytes (hex 18 0x0df25caa_0ef163b7_0ff06ac4_04512cf1_5ea9)) ∷
+      sent (hex 4 0x300f_f550) 0 (bytes (hex 18 0x0ff06ac4_04512cf1_5a93c71e_10480000_8617)) ∷
+      sent (hex 4 0x3010_83b8) 6 (nibble 0x0) ∷ []);
   changed = [];
   state = Waiting;
 }
@@ -171,23 +300,27 @@ otherBitsNoProt = record {
   state = Active;
 }
 
--- AUTH0 3Bh with PROT: FAST_READ 38h to 3Ah is 0, READ 38h is 6.
+-- AUTH0 3Bh with PROT: FAST_READ 38h to 3Ah is 0, READ 38h continues at page 00h behind 3Ah, READ 3Bh is 6.
 abbrev pub auth0LastPage : Case
 auth0LastPage = record {
   image = patched base (page 0x29 (hex 4 0x0000003b) ∷ page 0x2a (hex 4 0x8c050000) ∷ []);
   lines =
       toActive ++ (
       sent (hex 5 0x3a383a_7bb6) 0 (bytes (hex 14 0x38c78e06_39c69513_3ac59c20_acf6)) ∷
-      sent (hex 4 0x3038_c915) 6 (nibble 0x0) ∷ []);
+      sent (hex 4 0x3038_c915) 0 (bytes (hex 18 0x38c78e06_39c69513_3ac59c20_04512cf1_a2a8)) ∷
+      sent (hex 4 0x303b_5227) 6 (nibble 0x0) ∷ []);
   changed = [];
   state = Waiting;
 }
 
--- AUTH0 3Ch with PROT protects nothing: READ 38h is 0.
+-- AUTH0 3Ch with PROT protects nothing: READ 38h is 0, and READ 3Bh continues behind page 3Bh.
 abbrev pub auth0PastEnd : Case
 auth0PastEnd = record {
   image = patched base (page 0x2a (hex 4 0x8c050000) ∷ []);
-  lines = toActive ++ (sent (hex 4 0x3038_c915) 0 (bytes (hex 18 0x38c78e06_39c69513_3ac59c20_3bc4a32d_88f5)) ∷ []);
+  lines =
+      toActive ++ (
+      sent (hex 4 0x3038_c915) 0 (bytes (hex 18 0x38c78e06_39c69513_3ac59c20_3bc4a32d_88f5)) ∷
+      sent (hex 4 0x303b_5227) 0 (bytes (hex 18 0x3bc4a32d_04512cf1_5a93c71e_10480000_477e)) ∷ []);
   changed = [];
   state = Active;
 }
@@ -204,26 +337,26 @@ auth0HighBit = record {
   state = Active;
 }
 
--- 84h in AUTH0's byte is AUTH0 04h: with PROT, READ 00h is 0, READ 01h and WRITE 04h are 6.
+-- 84h in AUTH0's byte is AUTH0 04h: with PROT, READ 01h continues at page 00h, READ 04h and WRITE 04h are 6.
 abbrev pub auth0HighBitLow : Case
 auth0HighBitLow = record {
-  image = patched base (page 0x29 (hex 4 0x00000084) ∷ page 0x2a (hex 4 0x8c050000) ∷ []);
+  image = patched base (page 0x29 (hex 4 0x00000084) ∷ page 0x2a (hex 4 0x8c050000) ∷ page 0x03 (hex 4 0x0f1e2d3c) ∷ []);
   lines =
       toActive ++ (
-      sent (hex 4 0x3000_02a8) 0 (bytes (hex 18 0x04512cf1_5a93c71e_10480000_00000000_cbe0)) ∷
-      sent (hex 4 0x3001_8bb9) 6 (nibble 0x0) ∷
+      sent (hex 4 0x3001_8bb9) 0 (bytes (hex 18 0x5a93c71e_10480000_0f1e2d3c_04512cf1_f292)) ∷
+      sent (hex 4 0x3004_26ee) 6 (nibble 0x0) ∷
       selected ∷ sent (hex 8 0xa204_11223344_4463) 6 (nibble 0x0) ∷ []);
   changed = [];
   state = Waiting;
 }
 
--- AUTH0 00h with PROT: READ 39h, FAST_READ 05h to 04h and 00h to 3Ch are 5, READ 00h is 6.
+-- AUTH0 00h with PROT: READ 3Ch, FAST_READ 05h to 04h and 00h to 3Ch are 5, READ 00h is 6.
 abbrev pub rangeBeforeProt : Case
 rangeBeforeProt = record {
   image = patched base (page 0x29 (hex 4 0x00000000) ∷ page 0x2a (hex 4 0x8c050000) ∷ []);
   lines =
       toActive ++ (
-      sent (hex 4 0x3039_4004) 5 (nibble 0x0) ∷
+      sent (hex 4 0x303c_ed53) 5 (nibble 0x0) ∷
       selected ∷ sent (hex 5 0x3a0504_5c68) 5 (nibble 0x0) ∷
       selected ∷ sent (hex 5 0x3a003c_2fab) 5 (nibble 0x0) ∷
       selected ∷ sent (hex 4 0x3000_02a8) 6 (nibble 0x0) ∷ []);
@@ -246,6 +379,7 @@ keyPagesProt = record {
 
 unfoldable pub readingCases : List Case
 readingCases =
-    readSerial ∷ readPastEnd ∷ fastReadPastEnd ∷ fastReadAll ∷ reservedByte ∷ randomId ∷ randomIdFastRead ∷ otherBitsNoRandomId ∷ keyPages ∷
-    readAcrossAuth0 ∷ fastReadAcrossAuth0 ∷ protOff ∷ otherBitsNoProt ∷ auth0LastPage ∷ auth0PastEnd ∷ auth0HighBit ∷ auth0HighBitLow ∷
-    rangeBeforeProt ∷ keyPagesProt ∷ []
+    readSerial ∷ readPastEnd ∷ readWraps ∷ readWrapsAtAuth0 ∷ readWrapsAt03 ∷ readWrapsTwice ∷ readOnePage ∷ readNoPage ∷ readWrapsNoProt ∷
+    readWrapsRandomId ∷ readWrapsRandomIdAuth0 ∷ readWrapsKeys ∷ fastReadPastEnd ∷ fastReadAll ∷ reservedByte ∷ randomId ∷
+    randomIdFastRead ∷ otherBitsNoRandomId ∷ keyPages ∷ readAcrossAuth0 ∷ fastReadAcrossAuth0 ∷ protOff ∷ otherBitsNoProt ∷ auth0LastPage ∷
+    auth0PastEnd ∷ auth0HighBit ∷ auth0HighBitLow ∷ rangeBeforeProt ∷ keyPagesProt ∷ []

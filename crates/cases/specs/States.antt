@@ -142,7 +142,7 @@ challengeDropped = begun Active (hex 16 0x1ae4174ca173ebbc59165cebe2f20821) reco
 abbrev pub challengeDroppedRefused : Direct
 challengeDroppedRefused = begun Active (hex 16 0x1ae4174ca173ebbc59165cebe2f20821) record {
   image = base;
-  lines = sent (hex 4 0x3039_4004) 5 (nibble 0x0) ∷ [];
+  lines = sent (hex 4 0x303c_ed53) 5 (nibble 0x0) ∷ [];
   changed = [];
   state = Waiting;
 }
@@ -197,6 +197,18 @@ authenticatedOpens = begun Authenticated zeros record {
   state = Authenticated;
 }
 
+-- AUTHENTICATED, AUTH0 04h with PROT, Random ID on: READ 03h and 04h don't end at AUTH0, and READ 3Bh shows pages 00h to 02h.
+abbrev pub authenticatedWraps : Direct
+authenticatedWraps = begun Authenticated zeros record {
+  image = patched base (page 0x03 (hex 4 0x0f1e2d3c) ∷ page 0x29 (hex 4 0x01000004) ∷ page 0x2a (hex 4 0x8c050000) ∷ []);
+  lines =
+      sent (hex 4 0x3003_999a) 0 (bytes (hex 18 0x0f1e2d3c_04fb1d35_05fa2442_06f92b4f_faa8)) ∷
+      sent (hex 4 0x3004_26ee) 0 (bytes (hex 18 0x04fb1d35_05fa2442_06f92b4f_07f8325c_8919)) ∷
+      sent (hex 4 0x303b_5227) 0 (bytes (hex 18 0x3bc4a32d_04512cf1_5a93c71e_10480000_477e)) ∷ [];
+  changed = [];
+  state = Authenticated;
+}
+
 -- AUTHENTICATED: a locked page is 7.
 abbrev pub authenticatedLocked : Direct
 authenticatedLocked = begun Authenticated zeros record {
@@ -233,6 +245,15 @@ traceableRead = begun Traceable zeros record {
   lines = sent (hex 4 0x3004_26ee) 6 (nibble 0x0) ∷ [];
   changed = [];
   state = Waiting;
+}
+
+-- TRACEABLE, AUTH0 04h with PROT, Random ID on: READ 03h continues at page 00h and shows it.
+abbrev pub traceableWraps : Direct
+traceableWraps = begun Traceable zeros record {
+  image = patched base (page 0x03 (hex 4 0x0f1e2d3c) ∷ page 0x29 (hex 4 0x01000004) ∷ page 0x2a (hex 4 0x8c050000) ∷ []);
+  lines = sent (hex 4 0x3003_999a) 0 (bytes (hex 18 0x0f1e2d3c_04512cf1_5a93c71e_10480000_0443)) ∷ [];
+  changed = [];
+  state = Traceable;
 }
 
 -- TRACEABLE, AUTH0 04h: WRITE 04h is 6.
@@ -304,6 +325,6 @@ unfoldable pub stateRows : List Direct
 stateRows =
     challengedHalt ∷ challengedPart1 ∷ challengedUnknown ∷ challengedOtherLength ∷ longProof ∷ proofAlone ∷ limitAtPart2 ∷ limitFalseProof ∷
     powerDrops ∷ selectDrops ∷ powerUnknown ∷ selectUnknown ∷ challengeDropped ∷ challengeDroppedRefused ∷ traceableProof ∷
-    authenticatedProof ∷ traceableHalt ∷ authenticatedHalt ∷ authenticatedOpens ∷ authenticatedLocked ∷ authenticatedRandomId ∷
-    authenticatedConfigLocked ∷ traceableRead ∷ traceableWrite ∷ traceableReadCnt ∷ traceableIncrCnt ∷ traceableCounter2 ∷
-    traceableRandomId ∷ traceableRandomIdAuth0 ∷ traceableConfigLocked ∷ []
+    authenticatedProof ∷ traceableHalt ∷ authenticatedHalt ∷ authenticatedOpens ∷ authenticatedWraps ∷ authenticatedLocked ∷
+    authenticatedRandomId ∷ authenticatedConfigLocked ∷ traceableRead ∷ traceableWraps ∷ traceableWrite ∷ traceableReadCnt ∷
+    traceableIncrCnt ∷ traceableCounter2 ∷ traceableRandomId ∷ traceableRandomIdAuth0 ∷ traceableConfigLocked ∷ []

@@ -29,8 +29,8 @@ sending r f = frame (withCrc f) (replicate 16 r) 242
 abbrev pub read04 : Call
 read04 = sending 1 (0x30 ∷ 0x04 ∷ [])
 
-abbrev pub read39 : Call
-read39 = sending 2 (0x30 ∷ 0x39 ∷ [])
+abbrev pub read3C : Call
+read3C = sending 2 (0x30 ∷ 0x3c ∷ [])
 
 abbrev pub halt : Call
 halt = sending 3 (0x50 ∷ 0x00 ∷ [])
@@ -65,7 +65,7 @@ rows =
     }
     -- two stretches with different refusals: 5 in the first, 2 in the second
     ∷ record {
-      calls = select ∷ read04 ∷ read39 ∷ read04 ∷ halt ∷ select ∷ garbled ∷ read04 ∷ [];
+      calls = select ∷ read04 ∷ read3C ∷ read04 ∷ halt ∷ select ∷ garbled ∷ read04 ∷ [];
       numbers = 0 ∷ 0 ∷ 5 ∷ 1 ∷ 1 ∷ 0 ∷ 2 ∷ 1 ∷ [];
       fates = stays ∷ stays ∷ first ∷ behind ∷ behind ∷ stays ∷ first ∷ behind ∷ [];
     }
@@ -88,4 +88,4 @@ abbrev pub RandomKept : Type 0
 RandomKept = remaining tagMachine clean (log tagMachine sample twoChallenges) ≡ select ∷ challenge 7 ∷ select ∷ challenge 8 ∷ []
 
 abbrev pub SampleMeetsAll : Type 0
-SampleMeetsAll = (load base blank .number ≡ 0) × Bytes base × Every Fit (twoChallenges ++ (read04 ∷ halt ∷ read39 ∷ []))
+SampleMeetsAll = (load base blank .number ≡ 0) × Bytes base × Every Fit (twoChallenges ++ (read04 ∷ halt ∷ read3C ∷ []))

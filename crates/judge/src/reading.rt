@@ -9,23 +9,22 @@ use model::State;
 use numbers::first;
 use numbers::number_if;
 
-// A page up to the last one asked for is protected.
-pub fn read_barred(map: Map, st: State, s: &[u8], last: u16) -> bool
+// The page is protected, or one before it.
+pub fn read_barred(map: Map, st: State, s: &[u8], last: u8) -> bool
     ensures { λ r. ⌜ r ≡ readBarred map st (now (s .entry)) last ⌝ }
 {
     settings::read_protected(map, s)
         & !record::is_authenticated(st)
-        & ((settings::auth0(map, s) as u16) <= last)
+        & (settings::auth0(map, s) <= last)
 }
 
-// READ of the four pages from p on.
+// READ: of its four pages only the first is judged, since behind the last that may be read it continues at page 00h.
 pub fn read_number(map: Map, st: State, s: &[u8], p: u8) -> u8
     ensures { λ r. ⌜ r ≡ readNumber map st (now (s .entry)) p ⌝ }
 {
-    let last = (p as u16) + 3;
     first(
-        number_if((last_page(map) as u16) < last, 5),
-        number_if(read_barred(map, st, s, last), 6),
+        number_if(last_page(map) < p, 5),
+        number_if(read_barred(map, st, s, p), 6),
     )
 }
 
@@ -35,6 +34,6 @@ pub fn fast_read_number(map: Map, st: State, s: &[u8], p: u8, q: u8) -> u8
 {
     first(
         number_if((q < p) | (last_page(map) < q), 5),
-        number_if(read_barred(map, st, s, q as u16), 6),
+        number_if(read_barred(map, st, s, q), 6),
     )
 }

@@ -1,6 +1,7 @@
 -- What READ and FAST_READ do not tell: the claims RandomIdHides and KeysHidden of specs/CallClaims.antt.
 --
 --   Alike               two stores that differ only in hidden bytes
+--   window-alike        READ gives the same pages
 --   shown-alike         every byte is shown alike, and pages-alike: so are pages
 --   number-alike        a frame that reads gets the same number
 --   done-alike          carried out, it gets the same reply, and concluded-alike: with any other number too
@@ -22,11 +23,11 @@ use Rattle.model.specs.declared.Tag.{Tag}
 use Rattle.model.specs.declared.State.{State}
 use Rattle.model.specs.declared.Effect.the-variants.{Keep}
 use Rattle.model.specs.declared.Decision.{Decision}
-use Rattle.model.specs.Map.{mf0aes20}
+use Rattle.model.specs.Map.{mf0aes20, lastPage}
 use Rattle.model.specs.Settings.{randomIdOn, auth0, readProtected}
 use Rattle.model.specs.Numbers.{kept, refused, answered}
 use Rattle.model.specs.Telling.{told}
-use Rattle.model.specs.Reading.{readBarred, readNumber, fastReadNumber, readWindow, fastRange, hidden, shownByte, shownPages}
+use Rattle.model.specs.Reading.{readBarred, readNumber, fastReadNumber, lastReadable, readWindow, fastRange, hidden, shownByte, shownPages}
 use Rattle.model.specs.Authentication.{raised}
 use Rattle.model.specs.Frame.{misfit, commandNumber, commandDone, toldDone, frameNumber, notDone, concluded, decide, saidOf, frame}
 use Rattle.model.specs.CallClaims.{Reads, ReadAlike, RandomIdHides, KeysHidden}
@@ -49,6 +50,10 @@ module _ (tag : Tag) (s t : List ℕ) (h : Alike (tag .state) s t) where
   unfolding readBarred readProtected auth0 mf0aes20
   barred-alike last = rw (h .auth, h .prot)
 
+  window-alike : (p : ℕ) → readWindow mf0aes20 (tag .state) s p ≡ readWindow mf0aes20 (tag .state) t p
+  unfolding readWindow lastReadable auth0 mf0aes20
+  window-alike p = rw (barred-alike (lastPage mf0aes20), h .auth)
+
   shown-alike : (i : ℕ) → shownByte mf0aes20 (tag .state) s i ≡ shownByte mf0aes20 (tag .state) t i
   unfolding shownByte
   shown-alike i = rw (← hidden-alike i) (pick (h .shown i))
@@ -67,7 +72,7 @@ module _ (tag : Tag) (s t : List ℕ) (h : Alike (tag .state) s t) where
   number-alike : (f random : List ℕ) (room : ℕ) → Reads f
       → frameNumber mf0aes20 tag s f random room ≡ frameNumber mf0aes20 tag t f random room
   unfolding frameNumber misfit commandNumber readNumber fastReadNumber told
-  number-alike f random room (inl code) = rw (h .long, code, barred-alike (getD f 1 0 + 3))
+  number-alike f random room (inl code) = rw (h .long, code, barred-alike (getD f 1 0))
   number-alike f random room (inr code) = rw (h .long, code, barred-alike (getD f 2 0))
 
   -- two decisions are answered alike, one from each store
@@ -77,7 +82,7 @@ module _ (tag : Tag) (s t : List ℕ) (h : Alike (tag .state) s t) where
   done-alike : (f random : List ℕ) → Reads f
       → SaidAlike (toldDone (told (getD f 0 0)) mf0aes20 tag s f random) (toldDone (told (getD f 0 0)) mf0aes20 tag t f random)
   unfolding told commandDone answered saidOf
-  done-alike f random (inl code) = rw (code, pages-alike (readWindow (getD f 1 0)))
+  done-alike f random (inl code) = rw (code, window-alike (getD f 1 0), pages-alike (readWindow mf0aes20 (tag .state) t (getD f 1 0)))
   done-alike f random (inr code) = rw (code, pages-alike (fastRange (getD f 1 0) (getD f 2 0)))
 
   -- a number other than 0 is answered without the store

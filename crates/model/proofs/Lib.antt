@@ -16,4 +16,5 @@ pub mod ProofExact
 pub mod CallClaims
 pub mod Stages
 pub mod Ruling
+pub mod Computing
 pub mod Cases

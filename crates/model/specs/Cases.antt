@@ -43,13 +43,13 @@ read38 = record {
   state = Active;
 }
 
--- * READ 39h: 5.
+-- * READ 39h: 0, and behind page 3Bh it continues at 00h (E3).
 abbrev pub read39 : Case
 read39 = record {
   image = base;
-  lines = toActive ++ (sent (hex 4 0x3039_4004) 5 (nibble 0x0) ∷ []);
+  lines = toActive ++ (sent (hex 4 0x3039_4004) 0 (bytes (hex 18 0x39c69513_3ac59c20_3bc4a32d_04512cf1_65e7)) ∷ []);
   changed = [];
-  state = Waiting;
+  state = Active;
 }
 
 -- * FAST_READ 05h to 04h: 5.

@@ -130,7 +130,7 @@ sealed d = bytes (withCrc d)
 unfoldable pub saidOf : Map → Tag → List ℕ → List ℕ → Say → Said
 saidOf m tag s block say.the-variants.Silence = silence
 saidOf m tag s block (say.the-variants.Nibble n) = nibble n
-saidOf m tag s block (say.the-variants.Window p) = sealed (shownPages m (tag .state) s (readWindow p))
+saidOf m tag s block (say.the-variants.Window p) = sealed (shownPages m (tag .state) s (readWindow m (tag .state) s p))
 saidOf m tag s block (say.the-variants.Range p q) = sealed (shownPages m (tag .state) s (fastRange p q))
 saidOf m tag s block (say.the-variants.Count n) = sealed (lowFirst 3 (counter tag n))
 saidOf m tag s block (say.the-variants.Block b) = sealed (b ∷ block)

@@ -1,7 +1,8 @@
 -- Document 01, "Reading": READ and FAST_READ, 009 10.2 and 10.3.
 --
 --     readNumber, fastReadNumber     5 and 6 of the two commands
---     readWindow p                   the pages that READ asks for
+--     lastReadable m st s            the last page that READ may read
+--     readWindow m st s p            the pages that READ gives: behind the last that may be read it continues at 00h
 --     fastRange p q                  the pages that FAST_READ asks for
 --     shownByte m st s i             byte i of the memory as it is shown: key pages and Random ID's nine bytes are zeros
 --     shownPages m st s ps           the bytes of the pages ps as they are shown
@@ -19,13 +20,13 @@ use Rattle.model.specs.Settings.{auth0, readProtected, randomIdOn}
 use Rattle.model.specs.Record.{isActive, isAuthenticated}
 use Rattle.model.specs.Numbers.{numberIf, first}
 
--- a page up to the last one asked for is protected: PROT protects reading, the state isn't AUTHENTICATED, and AUTH0 is at most that page
+-- the page is protected, or one before it: PROT protects reading, the state isn't AUTHENTICATED, and AUTH0 is at most that page
 unfoldable pub readBarred : Map → State → List ℕ → ℕ → Bool
 readBarred m st s last = readProtected m s && not (isAuthenticated st) && leb (auth0 m s) last
 
--- four pages from p on; above 38h they would pass the last page
+-- only the first page is judged
 unfoldable pub readNumber : Map → State → List ℕ → ℕ → ℕ
-readNumber m st s p = first (numberIf (ltb (lastPage m) (p + 3)) 5) (numberIf (readBarred m st s (p + 3)) 6)
+readNumber m st s p = first (numberIf (ltb (lastPage m) p) 5) (numberIf (readBarred m st s p) 6)
 
 unfoldable pub fastReadNumber : Map → State → List ℕ → ℕ → ℕ → ℕ
 fastReadNumber m st s p q = first (numberIf (ltb q p || ltb (lastPage m) q) 5) (numberIf (readBarred m st s q) 6)
@@ -35,8 +36,20 @@ abbrev pub pagesFrom : ℕ → ℕ → List ℕ
 pagesFrom p zero = []
 pagesFrom p (suc n) = p ∷ pagesFrom (suc p) n
 
-unfoldable pub readWindow : ℕ → List ℕ
-readWindow p = pagesFrom p 4
+-- where AUTH0 protects a page from reading, the page before it is the last
+unfoldable pub lastReadable : Map → State → List ℕ → ℕ
+lastReadable m st s = cond (readBarred m st s (lastPage m)) (auth0 m s - 1) (lastPage m)
+
+abbrev pub pageAfter : ℕ → ℕ → ℕ
+pageAfter last p = cond (ltb p last) (p + 1) 0
+
+-- n pages from p on, rolling over behind the last
+abbrev pub rolled : ℕ → ℕ → ℕ → List ℕ
+rolled last p zero = []
+rolled last p (suc n) = p ∷ rolled last (pageAfter last p) n
+
+unfoldable pub readWindow : Map → State → List ℕ → ℕ → List ℕ
+readWindow m st s p = rolled (lastReadable m st s) p 4
 
 unfoldable pub fastRange : ℕ → ℕ → List ℕ
 fastRange p q = pagesFrom p (q + 1 - p)

@@ -20,10 +20,10 @@ use Rattle.model.specs.declared.Tag.{Tag}
 use Rattle.model.specs.declared.Say.{Say}
 use Rattle.model.specs.declared.Say.the-variants.{Silence, Nibble, Window, Range, Count, Block}
 use Rattle.model.proofs.Say.{the-type}
-use Rattle.model.specs.Reading.{readWindow, fastRange}
+use Rattle.model.specs.Reading.{fastRange}
 use Rattle.model.specs.Frame.{bytes, saidOf}
 use Rattle.reply.specs.Speaking.{dataOf, saidSize}
-use Rattle.shown.proofs.Shown.{shown-length}
+use Rattle.shown.proofs.Shown.{shown-length, window-length}
 
 module _ (m : Map) (tag : Tag) (s block : List ℕ) where
   pub no-data : (l : List ℕ) (y : Say) → OneOf (0 ∷ 1 ∷ []) (tagOf the-type y) → Laid l l 0 (dataOf m tag s block y)
@@ -47,10 +47,10 @@ module _ (m : Map) (tag : Tag) (s block : List ℕ) where
 
   pub data-size : (y : Say) → length block ≡ 16 → OneOf (2 ∷ 3 ∷ 4 ∷ 5 ∷ []) (tagOf the-type y)
       → length (dataOf m tag s block y) + 2 ≡ saidSize y
-  unfolding dataOf readWindow fastRange
+  unfolding dataOf fastRange
   data-size Silence h k = absurd (miss (2 ∷ 3 ∷ 4 ∷ 5 ∷ []) 0 tt k)
   data-size (Nibble n) h k = absurd (miss (2 ∷ 3 ∷ 4 ∷ 5 ∷ []) 1 tt k)
-  data-size (Window p) h k = ap (λ (n : ℕ). n + 2) (shown-length m (tag .state) s p 4)
+  data-size (Window p) h k = ap (λ (n : ℕ). n + 2) (window-length m (tag .state) s p)
   data-size (Range p q) h k = ap (λ (n : ℕ). n + 2) (shown-length m (tag .state) s p (q + 1 - p))
   data-size (Count n) h k = refl
   data-size (Block b) h k = omega arith

@@ -1,7 +1,7 @@
 -- What is said fits the reply buffer: for a caller of `speak`.
 --
 --   window-fits, range-fits, count-fits, block-fits
---                  a saying whose page or counter number passed its checks, in a buffer of the size that a frame needs
+--                  a saying, FAST_READ's with the checks of its pages passed, in a buffer of the size that a frame needs
 --   decided-fits   what any frame comes to, in the buffer that the frame was judged with
 --   ours-fits      the same for this tag's map
 --
@@ -23,7 +23,7 @@ use Rattle.model.specs.declared.Command.{Command}
 use Rattle.model.specs.declared.Command.the-variants.{Read, FastRead, Write, ReadCnt, IncrCnt, Authenticate, Proof, Halt}
 use Rattle.model.specs.Map.{mf0aes20, replySize, lastPage}
 use Rattle.model.specs.Numbers.{numberIf, kept, refused, answered, acknowledged}
-use Rattle.model.specs.Reading.{readBarred, readNumber, fastReadNumber}
+use Rattle.model.specs.Reading.{readBarred, fastReadNumber}
 use Rattle.model.specs.Authentication.{challenged, proved}
 use Rattle.model.specs.Frame.{commandNumber, commandDone, halted, frameNumber, notDone, decide}
 use Rattle.bits.proofs.Neither.{neither-right}
@@ -33,8 +33,8 @@ use Rattle.model.proofs.Carried.{first-zero, numberIf-zero, carried}
 use Rattle.reply.specs.Speaking.{saidSize}
 
 module _ (m : Map) (room : ℕ) (big : replySize m ≤ room) where
-  pub window-fits : (p : ℕ) → p + 3 ≤ lastPage m → saidSize (Window p) ≤ room
-  window-fits p h = omega arith
+  pub window-fits : (p : ℕ) → 5 ≤ m .pages → saidSize (Window p) ≤ room
+  window-fits p five = omega arith
 
   pub range-fits : (p q : ℕ) → 1 ≤ m .pages → q ≤ lastPage m → saidSize (Range p q) ≤ room
   range-fits p q some h = omega arith
@@ -48,11 +48,8 @@ module _ (m : Map) (room : ℕ) (big : replySize m ≤ room) where
 module _ (m : Map) (tag : Tag) (s f random : List ℕ) (room : ℕ) (five : 5 ≤ m .pages) where
   -- a command that is carried out
   done-fits : (c : Command) → commandNumber c m tag s f ≡ 0 → replySize m ≤ room → saidSize (commandDone c m tag s f random .say) ≤ room
-  unfolding commandNumber commandDone readNumber fastReadNumber answered acknowledged challenged proved halted
-  done-fits Read own big =
-      let p = getD f 1 0 in
-      let last = first-zero (numberIf (ltb (lastPage m) (p + 3)) 5) (numberIf (readBarred m (tag .state) s (p + 3)) 6) own .0 in
-      window-fits m room big p (ltb-false (lastPage m) (p + 3) (numberIf-zero (ltb (lastPage m) (p + 3)) 4 last))
+  unfolding commandNumber commandDone fastReadNumber answered acknowledged challenged proved halted
+  done-fits Read own big = window-fits m room big (getD f 1 0) five
   done-fits FastRead own big =
       let p = getD f 1 0 in
       let q = getD f 2 0 in

@@ -18,7 +18,7 @@ use Rattle.model.specs.Counters.{lowFirst}
 unfoldable pub dataOf : Map → Tag → List ℕ → List ℕ → Say → List ℕ
 dataOf m tag s block Silence = []
 dataOf m tag s block (Nibble n) = []
-dataOf m tag s block (Window p) = shownPages m (tag .state) s (readWindow p)
+dataOf m tag s block (Window p) = shownPages m (tag .state) s (readWindow m (tag .state) s p)
 dataOf m tag s block (Range p q) = shownPages m (tag .state) s (fastRange p q)
 dataOf m tag s block (Count n) = lowFirst 3 (counter tag n)
 dataOf m tag s block (Block b) = b ∷ block

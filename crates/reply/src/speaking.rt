@@ -50,7 +50,7 @@ fn lay_data(map: Map, tag: Tag, s: &[u8], say: Say, block: [u8; 16], reply: &mut
     let state = tag.state;
     match say {
         Say::Silence | Say::Nibble(_) => 0,
-        Say::Window(p) => shown::lay_pages(map, state, s, p, 4, reply),
+        Say::Window(p) => shown::window::lay_window(map, state, s, p, reply),
         Say::Range(p, q) => shown::lay_pages(map, state, s, p, pages_between(p, q), reply),
         Say::Count(n) => lay_count(counters::counter(tag, n), reply),
         Say::Block(b) => lay_block(b, block, reply),

@@ -25,13 +25,13 @@ use Rattle.model.specs.declared.Command.{Command}
 use Rattle.model.specs.declared.Command.the-variants.{Read, FastRead, Write, ReadCnt, IncrCnt, Authenticate, Proof, Halt}
 use Rattle.model.specs.Map.{mf0aes20}
 use Rattle.model.specs.Numbers.{kept, refused, answered, acknowledged}
-use Rattle.model.specs.Reading.{readWindow, fastRange}
+use Rattle.model.specs.Reading.{fastRange}
 use Rattle.model.specs.Authentication.{challenged, proved}
 use Rattle.model.specs.Frame.{commandDone, halted, frameNumber, notDone, decide, Said, silence, nibble, bytes, saidOf, frame, replyOf, laidOver}
 use Rattle.model.proofs.Numbers.{decide-not}
 use Rattle.model.proofs.Carried.{carried}
 use Rattle.reply.specs.Speaking.{saidSize}
-use Rattle.shown.proofs.Shown.{shown-length}
+use Rattle.shown.proofs.Shown.{shown-length, window-length}
 use Rattle.reply.proofs.Room.{ours-fits}
 use Rattle.runs.specs.Heard.{heard}
 
@@ -54,8 +54,8 @@ sealed-size d n h = withCrc-length d ∙ ap (λ (k : ℕ). k + 2) h
 module _ (m : Map) (tag : Tag) (s f random : List ℕ) (room : ℕ) where
   -- a command that is carried out
   done-size : (c : Command) → let d = commandDone c m tag s f random in inBuffer (saidBy m tag s d) ≡ saidSize (d .say)
-  unfolding commandDone answered acknowledged challenged proved halted saidOf readWindow fastRange
-  done-size Read = sealed-size _ 16 (shown-length m (tag .state) s (getD f 1 0) 4)
+  unfolding commandDone answered acknowledged challenged proved halted saidOf fastRange
+  done-size Read = sealed-size _ 16 (window-length m (tag .state) s (getD f 1 0))
   done-size FastRead =
       let p = getD f 1 0 in
       let q = getD f 2 0 in

@@ -1,4 +1,6 @@
 // Pages as READ and FAST_READ show them: key pages as zeros, and the serial number too while Random ID stands for it.
+pub mod window;
+
 use memory::record;
 use memory::settings;
 use model::Map;

@@ -55,7 +55,7 @@ rules! {
         HaltLength "length of HLTA",
     }
     5 {
-        ReadPageHigh "READ from a page above 38h",
+        ReadPageHigh "READ from a page above 3Bh",
         FastReadOrder "FAST_READ with its start above its end",
         FastReadEndHigh "FAST_READ to a page above 3Bh",
         WritePageLow "WRITE to a page under 02h",

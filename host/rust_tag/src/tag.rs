@@ -41,8 +41,8 @@ const LOCK_KEYS: u8 = 0x2D;
 const DATA_PROT_KEY: u8 = 0x30;
 const UID_RETR_KEY: u8 = 0x34;
 const LAST_PAGE: u8 = 0x3B;
-/// The last page from which READ has four pages; in the base it does not roll over (D6).
-const LAST_READ_PAGE: u8 = 0x38;
+/// Pages that one READ gives (10.2).
+const READ_PAGES: usize = 4;
 
 /// Offsets of both keys, which always read as zeros (8.6.3).
 const KEY_BYTES: Range<usize> = at(DATA_PROT_KEY)..at(0x38);
@@ -469,28 +469,43 @@ impl Session<'_> {
     // ---- reading (10.2, 10.3)
 
     fn read(&mut self, page: u8) -> Outcome {
-        require(page <= LAST_READ_PAGE, Rule::ReadPageHigh)?;
-        self.read_pages(page, page + 3, Rule::ReadProtected)
+        require(page <= LAST_PAGE, Rule::ReadPageHigh)?;
+        let last = self.last_readable().filter(|&last| page <= last).ok_or(Rule::ReadProtected)?;
+        let mut next = page;
+        for place in 0..READ_PAGES {
+            self.show(next, place);
+            // Behind the last page that may be read the window continues at page 00h, as often as needed (E3).
+            next = if next == last { 0 } else { next + 1 };
+        }
+        Ok(self.with_crc(READ_PAGES * PAGE_LEN))
     }
 
     fn fast_read(&mut self, start: u8, end: u8) -> Outcome {
         require(start <= end, Rule::FastReadOrder)?;
         require(end <= LAST_PAGE, Rule::FastReadEndHigh)?;
-        self.read_pages(start, end, Rule::FastReadProtected)
+        // One protected page is enough for 6; the last page is protected if any is.
+        require(self.last_readable().is_some_and(|last| end <= last), Rule::FastReadProtected)?;
+        for (place, page) in (start..=end).enumerate() {
+            self.show(page, place);
+        }
+        Ok(self.with_crc(at(end - start + 1)))
     }
 
-    /// One protected page is enough for 6; the last page is protected if any is.
-    fn read_pages(&mut self, start: u8, end: u8, protected: Rule) -> Outcome {
-        let barred = cfg_1_has(self.store, PROT) && !self.authenticated() && end >= auth0(self.store);
-        require(!barred, protected)?;
-        let (from, to) = (at(start), at(end) + PAGE_LEN);
-        let data = &mut self.reply[..to - from];
-        data.copy_from_slice(&self.store[from..to]);
+    /// The last page that may be read: the one before AUTH0 where PROT protects reading. None if AUTH0 protects all pages.
+    fn last_readable(&self) -> Option<u8> {
+        let limited = cfg_1_has(self.store, PROT) && !self.authenticated() && auth0(self.store) <= LAST_PAGE;
+        if limited { auth0(self.store).checked_sub(1) } else { Some(LAST_PAGE) }
+    }
+
+    /// Puts a page into the reply as a reader sees it, behind as many others as `place` says.
+    fn show(&mut self, page: u8, place: usize) {
+        let from = at(page);
+        let data = &mut self.reply[place * PAGE_LEN..(place + 1) * PAGE_LEN];
+        data.copy_from_slice(&self.store[from..from + PAGE_LEN]);
         blank(data, from, KEY_BYTES);
         if self.record.state == State::Active && self.store[at(CFG_0)] & RID_ACT != 0 {
             blank(data, from, SERIAL_BYTES);
         }
-        Ok(self.with_crc(to - from))
     }
 
     // ---- writing (10.4)

@@ -176,7 +176,7 @@ fn starred_frames_and_reading() {
     waiting.record = power(waiting.record).record;
     assert_eq!(waiting.raw(&[0]).number, 1);
     assert_eq!(Rig::new().number("3038"), 0);
-    assert_eq!(Rig::new().number("3039"), 5);
+    assert_eq!(Rig::new().number("3039"), 0);
     assert_eq!(Rig::new().number("3a0504"), 5);
     assert_eq!(Rig::new().data("3a3b3b"), [0; 4]);
 }
@@ -387,12 +387,73 @@ fn random_id_hides_nine_bytes_in_active() {
 fn protection_of_reading() {
     let mut rig = Rig::new().put(0x29, "00000010").put(0x2A, "8c");
     assert_eq!(rig.number("300c"), 0);
-    assert_eq!(rig.number("300d"), 6);
+    assert_eq!(rig.number("300d"), 0);
+    assert_eq!(rig.number("3a0d10"), 6);
+    rig.select();
+    assert_eq!(rig.number("3010"), 6);
     rig.select();
     assert_eq!(rig.login(0), 0);
-    assert_eq!(rig.number("300d"), 0);
+    assert_eq!(rig.number("3010"), 0);
     let mut bit_7 = Rig::new().put(0x29, "000000bc").put(0x2A, "8c");
     assert_eq!(bit_7.number("3a003b"), 0);
+}
+
+/// A tag whose pages but the settings and keys have their number in each byte, under PROT with this AUTH0.
+fn numbered(config_0: &str) -> Rig {
+    let pages = (0..0x28).chain([0x2B, 0x2C]).chain(0x38..0x3C);
+    let rig = pages.fold(Rig::new(), |rig, page| rig.put(page, &format!("{page:02x}").repeat(4)));
+    rig.put(0x29, config_0).put(0x2A, "8c")
+}
+
+/// The first bytes of the four pages that a READ gives.
+fn window(rig: &mut Rig, plain: &str) -> Vec<u8> {
+    let data = rig.data(plain);
+    assert!(data.len() == 16 && data.chunks(4).all(|page| page.iter().all(|&b| b == page[0])), "{plain}");
+    data.iter().copied().step_by(4).collect()
+}
+
+#[test]
+fn read_continues_behind_the_last_page() {
+    let mut rig = numbered("0000003c");
+    assert_eq!(window(&mut rig, "3038"), [0x38, 0x39, 0x3A, 0x3B]);
+    assert_eq!(window(&mut rig, "3039"), [0x39, 0x3A, 0x3B, 0]);
+    assert_eq!(window(&mut rig, "303a"), [0x3A, 0x3B, 0, 1]);
+    assert_eq!(window(&mut rig, "303b"), [0x3B, 0, 1, 2]);
+    assert_eq!(rig.number("303c"), 5);
+}
+
+#[test]
+fn read_continues_before_auth0() {
+    let windows = [("3000", [0, 1, 2, 3]), ("3001", [1, 2, 3, 0]), ("3002", [2, 3, 0, 1]), ("3003", [3, 0, 1, 2])];
+    let mut rig = numbered("00000004");
+    for (plain, pages) in windows {
+        assert_eq!(window(&mut rig, plain), pages, "{plain}");
+    }
+    assert_eq!(rig.number("3004"), 6);
+    rig.select();
+    assert_eq!(rig.login(0), 0);
+    assert_eq!(window(&mut rig, "3003"), [3, 4, 5, 6]);
+    assert_eq!(window(&mut rig, "3004"), [4, 5, 6, 7]);
+    assert_eq!(window(&mut rig, "303b"), [0x3B, 0, 1, 2]);
+    let mut open = numbered("00000004").put(0x2A, "0c");
+    assert_eq!(window(&mut open, "3003"), [3, 4, 5, 6]);
+}
+
+#[test]
+fn read_continues_more_than_once() {
+    assert_eq!(window(&mut numbered("00000002"), "3001"), [1, 0, 1, 0]);
+    assert_eq!(window(&mut numbered("00000001"), "3000"), [0; 4]);
+    assert_eq!(numbered("00000000").number("3000"), 6);
+    assert_eq!(numbered("00000000").number("303c"), 5);
+}
+
+#[test]
+fn hidden_bytes_behind_the_last_page() {
+    let mut rig = numbered("01000004");
+    assert_eq!(rig.data("3003"), hex("03030303000000000000000000020202"));
+    assert_eq!(rig.login(1), 0);
+    assert_eq!(window(&mut rig, "3003"), [3, 0, 1, 2]);
+    assert_eq!(numbered("00000038").put(0x34, "11111111111111111111111111111111").data("3036")[..8], [0; 8]);
 }
 
 #[test]

@@ -1,6 +1,5 @@
 -- `judge::reading::read_number` meets its contract: both checks are the definition's.
 -- Assumes nothing.
-use borrow.Author.Needs.{needs}
 use Rattle.model.specs.Reading.{readNumber}
 use Rattle.judge.proofs.reading.read_number.Statement.{statement}
 use Rattle.judge.proofs.reading.read_number.Tie as tie
@@ -17,6 +16,4 @@ returns c =
     )
 
 pub read-number-spec : {M : Type 1} → statement M
-read-number-spec =
-    tie.close
-    (tie.spec (λ c. search needs) (λ c κs. tt) (λ c. search needs) (λ c κs. tt) (λ c κs. tt) (λ c κs. tt) (λ c κs. tt) returns)
+read-number-spec = tie.close (tie.spec (λ c κs. tt) (λ c κs. tt) (λ c κs. tt) (λ c κs. tt) (λ c κs. tt) returns)

@@ -3,7 +3,7 @@
 use borrow.Author.Needs.{needs}
 use native.Mathlib.Omega.{arith}
 use denote.Ref.{now}
-use Rattle.model.specs.Reading.{readWindow, fastRange}
+use Rattle.model.specs.Reading.{fastRange}
 use Rattle.reply.specs.Speaking.{dataOf}
 use Rattle.reply.proofs.Data.{no-data}
 use Rattle.reply.proofs.speaking.lay_data.Statement.{statement}
@@ -18,14 +18,14 @@ returns c =
     no-data (a .map) (a .tag) (now (a .s)) (a .block) (now (a .reply)) (a .say) (c .match .keys1)
 
 returns-2 : tie.Need-returns-2
-unfolding dataOf readWindow
-returns-2 c = rw (c .before .before .before .before .before .say .given .1) (c .before .before .lay-pages .ensures)
+unfolding dataOf
+returns-2 c = rw (c .before .before .before .before .before .say .given .1) (c .before .before .lay-window .ensures)
 
 returns-3 : tie.Need-returns-3
 unfolding dataOf fastRange
 returns-3 c =
     rw (c .before .before .before .before .before .before .say2 .given .1, ← c .before .before .before .before .pages-between .ensures .0)
-    (c .before .before .lay-pages2 .ensures)
+    (c .before .before .lay-pages .ensures)
 
 returns-4 : tie.Need-returns-4
 unfolding dataOf
