@@ -43,6 +43,8 @@ static const struct talk script[] = {
     {"select", SELECTED, 0, {0}},
     {"READ 04h", RECEIVED, 4, {0x30, 0x04, 0x26, 0xEE}},
     {"select", SELECTED, 0, {0}},
+    {"WRITE 06h", RECEIVED, 8, {0xA2, 0x06, 0x47, 0x41, 0x54, 0x45, 0xBD, 0x38}},
+    {"select", SELECTED, 0, {0}},
     {"AUTHENTICATE, key 0", RECEIVED, 4, {0x1A, 0x00, 0x41, 0x76}},
     {"its proof", RECEIVED, 35, {0xAF, 0x2D, 0x6A, 0x06, 0x95, 0x73, 0x65, 0x4F, 0x00, 0xFA, 0x7C, 0x54, 0xDA, 0x2A, 0xAC, 0xF4, 0x52, 0x80,
                                  0xFD, 0x3F, 0xB1, 0x85, 0xE7, 0x63, 0xB6, 0x6F, 0x07, 0x21, 0xCC, 0x8F, 0x7A, 0x0E, 0xA3, 0x44, 0x74}},
@@ -74,6 +76,15 @@ static const char *words_of(uint8_t number) {
         "locked", "proof false", "counter full", "buffer wrong", "limit reached", "image wrong",
     };
     return number < sizeof words / sizeof words[0] ? words[number] : "unknown number";
+}
+
+/* The rule that stopped a WRITE, for the crew's log; nothing at any other answer. */
+static const char *reason_of(uint64_t answer) {
+    static const char *const reasons[] = {
+        "", ", by AUTH0", ", by the Random ID bit", ", by its own lock bit", ", by its pair's lock bit", ", by a key lock",
+        ", by the configuration lock",
+    };
+    return kz_answer_reason(answer) <= KZ_REASON_CONFIG_LOCK ? reasons[kz_answer_reason(answer)] : ", by an unknown rule";
 }
 
 static const char *state_of(const uint8_t *record) {
@@ -119,7 +130,7 @@ static void play(const struct talk *talk) {
     }
     say(talk->name, kz_answer_number(answer), record);
     transmit(answer, reply);
-    printf("\n");
+    printf("%s\n", reason_of(answer));
 }
 
 int main(void) {

@@ -44,6 +44,17 @@ enum kz_reply {
 /* The one nibble that is no refusal. */
 #define KZ_ACK 0xA
 
+/* Which rule stopped a WRITE, the first of them in this order. 1 and 2 go with number 6, 3 to 6 with 7. */
+enum kz_reason {
+    KZ_REASON_NONE = 0,       /* no WRITE, or one that none of these stopped */
+    KZ_REASON_AUTH0 = 1,      /* the page is at or above AUTH0, and the tag isn't AUTHENTICATED */
+    KZ_REASON_RANDOM_ID = 2,  /* the Random ID bit would change in ACTIVE */
+    KZ_REASON_OWN_LOCK = 3,   /* the page's own lock bit, in lock byte 0 or 1 */
+    KZ_REASON_PAIR_LOCK = 4,  /* its pair's lock bit, in lock byte 2 or 3 */
+    KZ_REASON_KEY_LOCK = 5,   /* a bit of LOCK_KEYS: of a key's pages, or of page 2Dh itself */
+    KZ_REASON_CONFIG_LOCK = 6 /* LOCK_USR_CFG */
+};
+
 enum kz_state {
     KZ_STATE_WAITING = 0,
     KZ_STATE_ACTIVE = 1,
@@ -101,7 +112,7 @@ static inline uint8_t kz_answer_kind(uint64_t answer) { return (uint8_t)(answer 
 /* 0 where the reply is no nibble; but 0 is a nibble too, so ask for the kind first. */
 static inline uint8_t kz_answer_nibble(uint64_t answer) { return (uint8_t)(answer >> 16); }
 
-/* Kept free for the rule that stopped a WRITE; 0 today. */
+/* A value of enum kz_reason: why a WRITE got 6 or 7. 0 at any other answer, a 6 to another command included; nothing keeps it. */
 static inline uint8_t kz_answer_reason(uint64_t answer) { return (uint8_t)(answer >> 24); }
 
 /* 0 where the reply is not bytes. */

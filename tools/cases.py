@@ -184,15 +184,23 @@ def data(payload):
 SPARE = bytes([0xA5] * 16)
 
 
-# a line: the frame with its CRC, its random block, the number, the reply
-def framed(frame, number, reply=None, random=SPARE):
+# a line: the frame with its CRC, its random block, the number, the reply, and the place of the rule that stops a WRITE. A WRITE that gets 6 or 7 has a
+# place, and no other frame
+def framed(frame, number, reply=None, random=SPARE, place=0):
     if reply is None:
         reply = SILENCE if number == 1 else nak(number) if number else ACK
-    return ("frame", bytes(frame), random, number, reply)
+    assert (place > 0) == (bytes(frame[:1]) == b"\xa2" and number in (6, 7)), bytes(frame).hex()
+    return ("frame", bytes(frame), random, number, reply, place)
 
 
 def sent(payload, number, reply=None, random=SPARE):
     return framed(with_crc(payload), number, reply, random)
+
+
+# a WRITE that a rule stops, by the place of the first that does in E6's order: 1 AUTH0, 2 Random ID bit, 3 own lock bit, 4 pair lock bit, 5 key lock,
+# 6 configuration lock
+def stopped(place, payload, number):
+    return framed(with_crc(payload), number, place=place)
 
 
 POWER = ("power",)
@@ -297,6 +305,7 @@ def key_locks(text):
 # PROT with counter 2 open, as delivered; LOCK_USR_CFG
 PROT = cfg_1(0x8C)
 CONFIG_LOCKED = cfg_1(0x4C)
+EVERY_LOCK = [locks(0xF8, 0xFF), pair_locks("ff0f0000"), CONFIG_LOCKED, key_locks("e0000000")]
 
 # Each row: name, words (document 01's where marked *), changes of the base image, lines, what is changed afterwards, state afterwards.
 
@@ -318,13 +327,13 @@ DOCUMENT = [
     ("lockAndBlock", "* Lock bytes 00h,00h, write 09h,00h: 09h,00h.", [locks(0x00, 0x00)],
      [TO_ACTIVE, sent([0xA2, 0x02, 0x00, 0x00, 0x09, 0x00], 0)], [locks(0x09, 0x00)], "Active"),
     ("lockedPage", "* Lock byte 0 at 08h, write page 03h: 7.", [locks(0x08, 0x00)],
-     [TO_ACTIVE, sent([0xA2, 0x03, 0x01, 0x00, 0x00, 0x00], 7)], [], "Waiting"),
+     [TO_ACTIVE, stopped(3, [0xA2, 0x03, 0x01, 0x00, 0x00, 0x00], 7)], [], "Waiting"),
     ("counterToHighest", "* Counter FFFFFEh plus 1: 0.", [counter(0, 0xFFFFFE)],
      [TO_ACTIVE, sent([0xA5, 0x00, 0x01, 0x00, 0x00, 0x00], 0)], [counter(0, 0xFFFFFF)], "Active"),
     ("counterPastHighest", "* Counter FFFFFEh plus 2: 9, unchanged.", [counter(0, 0xFFFFFE)],
      [TO_ACTIVE, sent([0xA5, 0x00, 0x02, 0x00, 0x00, 0x00], 9)], [], "Waiting"),
     ("protectedPage", "* AUTH0 04h, ACTIVE, write 04h: 6.", [AUTH0_04],
-     [TO_ACTIVE, sent([0xA2, 0x04, 0x11, 0x22, 0x33, 0x44], 6)], [], "Waiting"),
+     [TO_ACTIVE, stopped(1, [0xA2, 0x04, 0x11, 0x22, 0x33, 0x44], 6)], [], "Waiting"),
     ("belowAuth0", "* AUTH0 04h, ACTIVE, write 03h: 0.", [AUTH0_04],
      [TO_ACTIVE, sent([0xA2, 0x03, 0x11, 0x22, 0x33, 0x44], 0)], [page(0x03, [0x11, 0x22, 0x33, 0x44])], "Active"),
     ("benchExample", "The bench program's example, counter 0 at 10: S, READ_CNT 0, WRITE 00h, READ_CNT 0; the random block is the line number.",
@@ -441,7 +450,7 @@ READING = [
     ("auth0HighBitLow", "84h in AUTH0's byte is AUTH0 04h: with PROT, READ 01h continues at page 00h, READ 04h and WRITE 04h are 6.",
      [auth0(0x84), PROT, OTP_PAGE],
      each(sent(read(0x01), 0, data(stored(0x01, 0x02) + OTP + stored(0x00, 0x00))), sent(read(0x04), 6),
-          sent(write(0x04, "11223344"), 6)), [], "Waiting"),
+          stopped(1, write(0x04, "11223344"), 6)), [], "Waiting"),
     ("rangeBeforeProt", "AUTH0 00h with PROT: READ 3Ch, FAST_READ 05h to 04h and 00h to 3Ch are 5, READ 00h is 6.", [auth0(0x00), PROT],
      each(sent(read(0x3C), 5), sent(fast_read(0x05, 0x04), 5), sent(fast_read(0x00, 0x3C), 5), sent(read(0x00), 6)), [], "Waiting"),
     ("keyPagesProt", "Key pages under PROT, AUTH0 30h: READ 2Ch is 0, READ 30h and FAST_READ 37h to 37h are 6.", [auth0(0x30), PROT],
@@ -465,7 +474,7 @@ LOCKS = [
     ("otpOr", "OTP: each of the four bytes is old OR data.", [page(0x03, hexed("81422418"))], each(sent(write(0x03, "12345678"), 0)),
      [page(0x03, hexed("93767678"))], "Active"),
     ("otpLocked", "OTP locked: a write that would change nothing is 7 too.", [locks(0x08, 0x00), page(0x03, hexed("ff0000ff"))],
-     each(sent(write(0x03, "00000000"), 7), sent(write(0x03, "ff0000ff"), 7)), [], "Waiting"),
+     each(stopped(3, write(0x03, "00000000"), 7), stopped(3, write(0x03, "ff0000ff"), 7)), [], "Waiting"),
     ("blockBit0", "Lock bytes 01h,00h, write FFh,FFh: F7h,FFh. Data bytes 0 and 1, here FFh, are ignored.", [locks(0x01, 0x00)],
      each(sent(write(0x02, "ffffffff"), 0)), [locks(0xF7, 0xFF)], "Active"),
     ("blockBit1", "Lock bytes 02h,00h, write FFh,FFh: 0Fh,FCh. Data bytes 0 and 1, here 00h, are ignored.", [locks(0x02, 0x00)],
@@ -483,24 +492,24 @@ LOCKS = [
     ("lockBitsFreezeNothing", "Lock bytes F0h,00h, write 0Fh,FFh: FFh,FFh. Only block bits freeze.", [locks(0xF0, 0x00)],
      each(sent(write(0x02, "00000fff"), 0)), [locks(0xFF, 0xFF)], "Active"),
     ("lockHolds", "A lock bit holds from the next frame on: WRITE 02h with 10h,00h, then WRITE 04h: 7.", [],
-     each(sent(write(0x02, "00001000"), 0), sent(write(0x04, "11223344"), 7)), [locks(0x10, 0x00)], "Waiting"),
+     each(sent(write(0x02, "00001000"), 0), stopped(3, write(0x04, "11223344"), 7)), [locks(0x10, 0x00)], "Waiting"),
     ("blockBitsLockNothing", "Lock bytes 07h,00h: WRITE 03h, 04h and 0Ah are 0.", [locks(0x07, 0x00)],
      each(sent(write(0x03, "01020304"), 0), sent(write(0x04, "11223344"), 0), sent(write(0x0A, "55667788"), 0)),
      [page(0x03, hexed("01020304")), page(0x04, hexed("11223344")), page(0x0A, hexed("55667788"))], "Active"),
     ("lock04", "Lock bytes 10h,00h: WRITE 04h is 7, 03h and 05h are 0.", [locks(0x10, 0x00)],
-     each(sent(write(0x03, "01020304"), 0), sent(write(0x05, "11223344"), 0), sent(write(0x04, "11223344"), 7)),
+     each(sent(write(0x03, "01020304"), 0), sent(write(0x05, "11223344"), 0), stopped(3, write(0x04, "11223344"), 7)),
      [page(0x03, hexed("01020304")), page(0x05, hexed("11223344"))], "Waiting"),
     ("lock07", "Lock bytes 80h,00h: WRITE 07h is 7, 06h and 08h are 0.", [locks(0x80, 0x00)],
-     each(sent(write(0x06, "01020304"), 0), sent(write(0x08, "11223344"), 0), sent(write(0x07, "11223344"), 7)),
+     each(sent(write(0x06, "01020304"), 0), sent(write(0x08, "11223344"), 0), stopped(3, write(0x07, "11223344"), 7)),
      [page(0x06, hexed("01020304")), page(0x08, hexed("11223344"))], "Waiting"),
     ("lock08", "Lock bytes 00h,01h: WRITE 08h is 7, 07h and 09h are 0.", [locks(0x00, 0x01)],
-     each(sent(write(0x07, "01020304"), 0), sent(write(0x09, "11223344"), 0), sent(write(0x08, "11223344"), 7)),
+     each(sent(write(0x07, "01020304"), 0), sent(write(0x09, "11223344"), 0), stopped(3, write(0x08, "11223344"), 7)),
      [page(0x07, hexed("01020304")), page(0x09, hexed("11223344"))], "Waiting"),
     ("lock0F", "Lock bytes 00h,80h: WRITE 0Fh is 7, 0Eh and 10h are 0.", [locks(0x00, 0x80)],
-     each(sent(write(0x0E, "01020304"), 0), sent(write(0x10, "11223344"), 0), sent(write(0x0F, "11223344"), 7)),
+     each(sent(write(0x0E, "01020304"), 0), sent(write(0x10, "11223344"), 0), stopped(3, write(0x0F, "11223344"), 7)),
      [page(0x0E, hexed("01020304")), page(0x10, hexed("11223344"))], "Waiting"),
     ("lockEach", "Lock bytes F8h,FFh: WRITE 03h to 0Fh are 7 each.", [locks(0xF8, 0xFF)],
-     each(*[sent(write(p, "11223344"), 7) for p in range(0x03, 0x10)]), [], "Waiting"),
+     each(*[stopped(3, write(p, "11223344"), 7) for p in range(0x03, 0x10)]), [], "Waiting"),
     ("lockByte0Only", "Lock bytes F8h,00h: WRITE 08h to 0Fh are 0.", [locks(0xF8, 0x00)],
      each(*[sent(write(p, "11223344"), 0) for p in range(0x08, 0x10)]), [page(0x08, hexed("11223344" * 8))], "Active"),
     ("lockByte1Only", "Lock bytes 00h,FFh: WRITE 03h to 07h are 0.", [locks(0x00, 0xFF)],
@@ -530,21 +539,25 @@ PAIR_LOCKS = [
     ("pairFrozenKept", "Lock bytes 2 to 4 at 01h,08h,21h, write FFh,FFh,FFh: frozen bits keep their value, set or not: FDh,0Bh,3Fh.",
      [pair_locks("01082100")], each(sent(write(0x28, "ffffff00"), 0)), [pair_locks("fd0b3f00")], "Active"),
     ("pairLockHolds", "A pair's lock bit holds from the next frame on: WRITE 28h with 02h,00h,00h, then WRITE 13h: 7.", [],
-     each(sent(write(0x28, "02000000"), 0), sent(write(0x13, "11223344"), 7)), [pair_locks("02000000")], "Waiting"),
+     each(sent(write(0x28, "02000000"), 0), stopped(4, write(0x13, "11223344"), 7)), [pair_locks("02000000")], "Waiting"),
     ("pairLock10", "Lock byte 2 at 01h: WRITE 10h and 11h are 7, 0Fh and 12h are 0.", [pair_locks("01000000")],
-     each(sent(write(0x10, "11223344"), 7), sent(write(0x11, "11223344"), 7), sent(write(0x0F, "11223344"), 0), sent(write(0x12, "55667788"), 0)),
+     each(stopped(4, write(0x10, "11223344"), 7), stopped(4, write(0x11, "11223344"), 7), sent(write(0x0F, "11223344"), 0),
+          sent(write(0x12, "55667788"), 0)),
      [page(0x0F, hexed("11223344")), page(0x12, hexed("55667788"))], "Active"),
     ("pairLock1E", "Lock byte 2 at 80h: WRITE 1Eh and 1Fh are 7, 1Dh and 20h are 0.", [pair_locks("80000000")],
-     each(sent(write(0x1E, "11223344"), 7), sent(write(0x1F, "11223344"), 7), sent(write(0x1D, "11223344"), 0), sent(write(0x20, "55667788"), 0)),
+     each(stopped(4, write(0x1E, "11223344"), 7), stopped(4, write(0x1F, "11223344"), 7), sent(write(0x1D, "11223344"), 0),
+          sent(write(0x20, "55667788"), 0)),
      [page(0x1D, hexed("11223344")), page(0x20, hexed("55667788"))], "Active"),
     ("pairLock20", "Lock byte 3 at 01h: WRITE 20h and 21h are 7, 1Fh and 22h are 0.", [pair_locks("00010000")],
-     each(sent(write(0x20, "11223344"), 7), sent(write(0x21, "11223344"), 7), sent(write(0x1F, "11223344"), 0), sent(write(0x22, "55667788"), 0)),
+     each(stopped(4, write(0x20, "11223344"), 7), stopped(4, write(0x21, "11223344"), 7), sent(write(0x1F, "11223344"), 0),
+          sent(write(0x22, "55667788"), 0)),
      [page(0x1F, hexed("11223344")), page(0x22, hexed("55667788"))], "Active"),
     ("pairLock26", "Lock byte 3 at 08h: WRITE 26h and 27h are 7, 25h is 0, and 28h is not locked.", [pair_locks("00080000")],
-     each(sent(write(0x26, "11223344"), 7), sent(write(0x27, "11223344"), 7), sent(write(0x25, "11223344"), 0), sent(write(0x28, "01000000"), 0)),
+     each(stopped(4, write(0x26, "11223344"), 7), stopped(4, write(0x27, "11223344"), 7), sent(write(0x25, "11223344"), 0),
+          sent(write(0x28, "01000000"), 0)),
      [page(0x25, hexed("11223344")), pair_locks("01080000")], "Active"),
     ("pairLockEach", "Lock bytes 2 and 3 at FFh,0Fh: WRITE 11h, 13h and on to 27h are 7 each.", [pair_locks("ff0f0000")],
-     each(*[sent(write(p, "11223344"), 7) for p in range(0x11, 0x28, 2)]), [], "Waiting"),
+     each(*[stopped(4, write(p, "11223344"), 7) for p in range(0x11, 0x28, 2)]), [], "Waiting"),
     ("pairByte2Only", "Lock bytes 2 and 3 at FFh,00h: WRITE 20h, 22h, 24h and 26h are 0.", [pair_locks("ff000000")],
      each(*[sent(write(p, "11223344"), 0) for p in range(0x20, 0x28, 2)]), [page(p, hexed("11223344")) for p in range(0x20, 0x28, 2)], "Active"),
     ("pairByte3Only", "Lock bytes 2 and 3 at 00h,0Fh: WRITE 10h, 12h and on to 1Eh are 0.", [pair_locks("000f0000")],
@@ -560,22 +573,22 @@ SETTINGS = [
     ("writePastEnd", "WRITE 00h, 3Ch and FFh: 5.", [],
      each(sent(write(0x00, "11223344"), 5), sent(write(0x3C, "11223344"), 5), sent(write(0xFF, "11223344"), 5)), [], "Waiting"),
     ("auth0Zero", "AUTH0 00h: WRITE 02h is 6; WRITE 00h and 3Ch are 5, which comes first.", [auth0(0x00)],
-     each(sent(write(0x02, "00000100"), 6), sent(write(0x00, "11223344"), 5), sent(write(0x3C, "11223344"), 5)), [], "Waiting"),
+     each(stopped(1, write(0x02, "00000100"), 6), sent(write(0x00, "11223344"), 5), sent(write(0x3C, "11223344"), 5)), [], "Waiting"),
     ("auth0WithProt", "AUTH0 04h with PROT: WRITE 04h is 6, 03h is 0, as without PROT.", [AUTH0_04, PROT],
-     each(sent(write(0x04, "11223344"), 6), sent(write(0x03, "01020304"), 0)), [page(0x03, hexed("01020304"))], "Active"),
+     each(stopped(1, write(0x04, "11223344"), 6), sent(write(0x03, "01020304"), 0)), [page(0x03, hexed("01020304"))], "Active"),
     ("auth0BeforeLocks", "AUTH0 04h and every lock set: WRITE 04h, 10h, 29h, 2Ah, 2Dh, 30h and 34h are 6, which comes before 7.",
-     [AUTH0_04, locks(0xF8, 0xFF), pair_locks("ff0f0000"), CONFIG_LOCKED, key_locks("e0000000")],
-     each(*[sent(write(p, "00000004"), 6) for p in (0x04, 0x10, 0x29, 0x2A, 0x2D, 0x30, 0x34)]), [], "Waiting"),
+     [AUTH0_04] + EVERY_LOCK,
+     each(*[stopped(1, write(p, "00000004"), 6) for p in (0x04, 0x10, 0x29, 0x2A, 0x2D, 0x30, 0x34)]), [], "Waiting"),
     ("auth0LastWrite", "AUTH0 3Bh: WRITE 3Bh is 6, 3Ah is 0.", [auth0(0x3B)],
-     each(sent(write(0x3B, "11223344"), 6), sent(write(0x3A, "11223344"), 0)),
+     each(stopped(1, write(0x3B, "11223344"), 6), sent(write(0x3A, "11223344"), 0)),
      [page(0x3A, hexed("11223344"))], "Active"),
     ("auth0Above", "AUTH0 7Fh protects nothing: WRITE 3Bh is 0.", [auth0(0x7F)], each(sent(write(0x3B, "11223344"), 0)),
      [page(0x3B, hexed("11223344"))], "Active"),
     ("auth0Keys", "AUTH0 30h: WRITE 30h and 37h are 6, 2Fh is 0.", [auth0(0x30)],
-     each(sent(write(0x30, "11223344"), 6), sent(write(0x37, "11223344"), 6), sent(write(0x2F, "11223344"), 0)), [page(0x2F, hexed("11223344"))],
-     "Active"),
+     each(stopped(1, write(0x30, "11223344"), 6), stopped(1, write(0x37, "11223344"), 6), sent(write(0x2F, "11223344"), 0)),
+     [page(0x2F, hexed("11223344"))], "Active"),
     ("auth0Holds", "A setting holds from the next frame on: WRITE 29h with AUTH0 04h, then WRITE 04h: 6.", [],
-     each(sent(write(0x29, "00000004"), 0), sent(write(0x04, "11223344"), 6)), [AUTH0_04], "Waiting"),
+     each(sent(write(0x29, "00000004"), 0), stopped(1, write(0x04, "11223344"), 6)), [AUTH0_04], "Waiting"),
     ("configAsSent", "WRITE 29h and 2Ah store the bytes as sent, reserved bits too.", [],
      each(sent(write(0x29, "fe5aa5fc"), 0), sent(write(0x2A, "bf5a12fe"), 0)), [page(0x29, hexed("fe5aa5fc")), page(0x2A, hexed("bf5a12fe"))],
      "Active"),
@@ -588,44 +601,62 @@ SETTINGS = [
      each(*[sent(write(p, "ff00a55a"), 0) for p in (0x2B, 0x2C, 0x2E, 0x2F, 0x38, 0x3B)]),
      [page(p, hexed("ff00a55a")) for p in (0x2B, 0x2C, 0x2E, 0x2F, 0x38, 0x3B)], "Active"),
     ("dataProtKeyLocked", "LOCK_KEYS bit 6 set: WRITE 30h and 33h are 7, 2Fh and 34h are 0.", [key_locks("40000000")],
-     each(sent(write(0x30, "11223344"), 7), sent(write(0x33, "11223344"), 7), sent(write(0x2F, "11223344"), 0), sent(write(0x34, "55667788"), 0)),
+     each(stopped(5, write(0x30, "11223344"), 7), stopped(5, write(0x33, "11223344"), 7), sent(write(0x2F, "11223344"), 0),
+          sent(write(0x34, "55667788"), 0)),
      [page(0x2F, hexed("11223344")), page(0x34, hexed("55667788"))], "Active"),
     ("uidRetrKeyLocked", "LOCK_KEYS bit 7 set: WRITE 34h and 37h are 7, 33h and 38h are 0.", [key_locks("80000000")],
-     each(sent(write(0x34, "11223344"), 7), sent(write(0x37, "11223344"), 7), sent(write(0x33, "11223344"), 0), sent(write(0x38, "55667788"), 0)),
+     each(stopped(5, write(0x34, "11223344"), 7), stopped(5, write(0x37, "11223344"), 7), sent(write(0x33, "11223344"), 0),
+          sent(write(0x38, "55667788"), 0)),
      [page(0x33, hexed("11223344")), page(0x38, hexed("55667788"))], "Active"),
     ("keyLocksBlocked", "LOCK_KEYS bit 5 set: WRITE 2Dh is 7, whatever it holds; WRITE 30h and 34h are 0.", [key_locks("20000000")],
-     each(sent(write(0x2D, "20000000"), 7), sent(write(0x2D, "e0000000"), 7), sent(write(0x2D, "00000000"), 7), sent(write(0x30, "11223344"), 0),
-          sent(write(0x34, "55667788"), 0)), [page(0x30, hexed("11223344")), page(0x34, hexed("55667788"))], "Active"),
+     each(stopped(5, write(0x2D, "20000000"), 7), stopped(5, write(0x2D, "e0000000"), 7), stopped(5, write(0x2D, "00000000"), 7),
+          sent(write(0x30, "11223344"), 0), sent(write(0x34, "55667788"), 0)), [page(0x30, hexed("11223344")), page(0x34, hexed("55667788"))], "Active"),
     ("otherBitsLockNoKey", "LOCK_KEYS at 1Fh, all but its three bits: WRITE 30h, 34h and 2Dh are 0.", [key_locks("1fffffff")],
      each(sent(write(0x30, "11223344"), 0), sent(write(0x34, "55667788"), 0), sent(write(0x2D, "00000000"), 0)),
      [page(0x30, hexed("11223344")), page(0x34, hexed("55667788")), key_locks("00000000")], "Active"),
     ("keyLocksTogether", "LOCK_KEYS bits 5, 6 and 7 set in one write: 0, and all three hold from the next frame on.", [],
-     each(sent(write(0x2D, "e0123456"), 0), sent(write(0x30, "11223344"), 7), sent(write(0x34, "11223344"), 7), sent(write(0x2D, "e0123456"), 7)),
+     each(sent(write(0x2D, "e0123456"), 0), stopped(5, write(0x30, "11223344"), 7), stopped(5, write(0x34, "11223344"), 7),
+          stopped(5, write(0x2D, "e0123456"), 7)),
      [key_locks("e0123456")], "Waiting"),
     ("keyLocksStay", "LOCK_KEYS bit 6 set, write 00h: bit 6 is kept and all else is as sent. A write of 80h then gives C0h.",
      [key_locks("5faabbcc")],
      each(sent(write(0x2D, "00112233"), 0), sent(fast_read(0x2D, 0x2D), 0, data(hexed("40112233"))), sent(write(0x2D, "80000000"), 0),
           sent(fast_read(0x2D, 0x2D), 0, data(hexed("c0000000"))), sent(write(0x2D, "1f000000"), 0)), [key_locks("df000000")], "Active"),
     ("configLocked", "LOCK_USR_CFG set: WRITE 29h and 2Ah are 7, the latter with bit 6 clear too; WRITE 28h, 2Bh and 2Dh are 0.", [CONFIG_LOCKED],
-     each(sent(write(0x29, "0000003c"), 7), sent(write(0x2A, "4c050000"), 7), sent(write(0x2A, "0c050000"), 7), sent(write(0x28, "01000000"), 0),
-          sent(write(0x2B, "11223344"), 0), sent(write(0x2D, "80000000"), 0)),
+     each(stopped(6, write(0x29, "0000003c"), 7), stopped(6, write(0x2A, "4c050000"), 7), stopped(6, write(0x2A, "0c050000"), 7),
+          sent(write(0x28, "01000000"), 0), sent(write(0x2B, "11223344"), 0), sent(write(0x2D, "80000000"), 0)),
      [pair_locks("01000000"), page(0x2B, hexed("11223344")), key_locks("80000000")], "Active"),
     ("configLockSet", "The write that sets LOCK_USR_CFG is carried out in full; the next one is 7.", [],
-     each(sent(write(0x2A, "4c7788fe"), 0), sent(write(0x2A, "0c050000"), 7)), [page(0x2A, hexed("4c7788fe"))], "Waiting"),
+     each(sent(write(0x2A, "4c7788fe"), 0), stopped(6, write(0x2A, "0c050000"), 7)), [page(0x2A, hexed("4c7788fe"))], "Waiting"),
     ("otherBitsNoConfigLock", "CFG_1 byte 0 at BFh, all but LOCK_USR_CFG: WRITE 29h and 2Ah are 0.", [cfg_1(0xBF)],
      each(sent(write(0x29, "00112233"), 0), sent(write(0x2A, "0c050000"), 0)), [page(0x29, hexed("00112233")), cfg_1(0x0C)], "Active"),
-    ("randomIdSwitchedOn", "A CFG_0 write that sets the Random ID bit in ACTIVE: 6.", [], each(sent(write(0x29, "0100003c"), 6)), [], "Waiting"),
-    ("randomIdSwitchedOff", "A CFG_0 write that clears the Random ID bit in ACTIVE: 6.", [RANDOM_ID], each(sent(write(0x29, "0000003c"), 6)), [],
+    ("randomIdSwitchedOn", "A CFG_0 write that sets the Random ID bit in ACTIVE: 6.", [], each(stopped(2, write(0x29, "0100003c"), 6)), [],
      "Waiting"),
+    ("randomIdSwitchedOff", "A CFG_0 write that clears the Random ID bit in ACTIVE: 6.", [RANDOM_ID],
+     each(stopped(2, write(0x29, "0000003c"), 6)), [], "Waiting"),
     ("randomIdKept", "CFG_0 writes in ACTIVE that keep the Random ID bit, set: 0.", [RANDOM_ID], each(sent(write(0x29, "0311227f"), 0)),
      [page(0x29, hexed("0311227f"))], "Active"),
     ("randomIdKeptOff", "CFG_0 writes in ACTIVE that keep the Random ID bit, clear: 0.", [], each(sent(write(0x29, "0211227f"), 0)),
      [page(0x29, hexed("0211227f"))], "Active"),
     ("otherBitsSwitchNothing", "CFG_0 byte 0 at FEh: a write of 00h there keeps the Random ID bit, 0; one of 01h changes it, 6.",
      [auth0(0x3C, 0xFE)],
-     each(sent(write(0x29, "0000003c"), 0), sent(write(0x29, "0100003c"), 6)), [auth0(0x3C)], "Waiting"),
+     each(sent(write(0x29, "0000003c"), 0), stopped(2, write(0x29, "0100003c"), 6)), [auth0(0x3C)], "Waiting"),
     ("randomIdLocked", "LOCK_USR_CFG set: a CFG_0 write that changes the Random ID bit in ACTIVE is 6, one that keeps it is 7.", [CONFIG_LOCKED],
-     each(sent(write(0x29, "0100003c"), 6), sent(write(0x29, "0000003c"), 7)), [], "Waiting"),
+     each(stopped(2, write(0x29, "0100003c"), 6), stopped(6, write(0x29, "0000003c"), 7)), [], "Waiting"),
+    ("auth0BeforeRandomId", "AUTH0 29h, ACTIVE: a CFG_0 write that changes the Random ID bit is stopped by AUTH0.", [auth0(0x29)],
+     each(stopped(1, write(0x29, "01000029"), 6)), [], "Waiting"),
+    ("auth0BeforeBoth", "AUTH0 29h and LOCK_USR_CFG set, ACTIVE: AUTH0 is the first of the three rules that stop a CFG_0 write with another Random ID bit.",
+     [auth0(0x29), CONFIG_LOCKED], each(stopped(1, write(0x29, "01000029"), 6)), [], "Waiting"),
+    ("lockReasons", "Every lock set: WRITE 03h and 0Fh are stopped by their own lock bit, 10h and 27h by their pair's, 2Dh, 30h and 37h by a key lock, "
+     "29h and 2Ah by the configuration lock.", EVERY_LOCK,
+     each(stopped(3, write(0x03, "11223344"), 7), stopped(3, write(0x0F, "11223344"), 7), stopped(4, write(0x10, "11223344"), 7),
+          stopped(4, write(0x27, "11223344"), 7), stopped(5, write(0x2D, "00000000"), 7), stopped(5, write(0x30, "11223344"), 7),
+          stopped(5, write(0x37, "11223344"), 7), stopped(6, write(0x29, "0000003c"), 7), stopped(6, write(0x2A, "0c050000"), 7)), [], "Waiting"),
+    ("noReason", "AUTH0 02h with PROT, LOCK_USR_CFG set, counter 2 closed: READ, FAST_READ, READ_CNT and INCR_CNT are 6, WRITE 01h and 3Ch are 5, and a "
+     "WRITE with a byte too few is 4, all without a reason; WRITE 04h is stopped by AUTH0.", [auth0(0x02), cfg_1(0xC0), locks(0xF8, 0xFF)],
+     each(sent(read(0x04), 6), sent(fast_read(0x04, 0x04), 6), sent(read_cnt(2), 6), sent(incr_cnt(2, "01000000"), 6),
+          sent(write(0x01, "11223344"), 5), sent(write(0x3C, "11223344"), 5), sent(write(0x04, "112233"), 4), stopped(1, write(0x04, "11223344"), 6)),
+     [], "Waiting"),
 ]
 
 # READ_CNT and INCR_CNT
@@ -731,6 +762,10 @@ BEGUN = [
     ("Active", RND_B, "challengeDropped", "Challenge bytes that aren't zero in ACTIVE are zero after a READ.", [],
      [framed(READ_04, 0, data(stored(0x04, 0x07)))], [], "Active"),
     ("Active", RND_B, "challengeDroppedRefused", "And after a refusal.", [], [sent(read(0x3C), 5)], [], "Waiting"),
+    ("Active", NO_CHALLENGE, "reasonOnce",
+     "A reason belongs to one answer: WRITE 04h is stopped by its lock bit, is 1 without a reason in WAITING, and is stopped again.",
+     [locks(0x10, 0x00)],
+     [stopped(3, write(0x04, "11223344"), 7), sent(write(0x04, "11223344"), 1), SELECT, stopped(3, write(0x04, "11223344"), 7)], [], "Waiting"),
     ("Traceable", NO_CHALLENGE, "traceableProof", "TRACEABLE: AFh is 3.", [], [sent(b"\xaf" + STEP_3, 3)], [], "Waiting"),
     ("Authenticated", NO_CHALLENGE, "authenticatedProof", "AUTHENTICATED: AFh is 3.", [], [sent(b"\xaf" + STEP_3, 3)], [], "Waiting"),
     ("Traceable", NO_CHALLENGE, "traceableHalt", "TRACEABLE: HLTA is 0 with silence, and WAITING.", [], [sent(HLTA, 0, SILENCE)], [], "Waiting"),
@@ -748,17 +783,19 @@ BEGUN = [
      [sent(read(0x03), 0, data(OTP + stored(0x04, 0x06))), sent(read(0x04), 0, data(stored(0x04, 0x07))),
       sent(read(0x3B), 0, data(pages_of(0x3B, 0x00, 0x01, 0x02)))], [], "Authenticated"),
     ("Authenticated", NO_CHALLENGE, "authenticatedLocked", "AUTHENTICATED: a locked page is 7.", [locks(0x10, 0x00)],
-     [sent(write(0x04, "11223344"), 7)], [], "Waiting"),
+     [stopped(3, write(0x04, "11223344"), 7)], [], "Waiting"),
+    ("Authenticated", NO_CHALLENGE, "authenticatedLockReason", "AUTHENTICATED, AUTH0 04h: a locked page is stopped by its own lock bit.",
+     [AUTH0_04, locks(0x10, 0x00)], [stopped(3, write(0x04, "11223344"), 7)], [], "Waiting"),
     ("Authenticated", NO_CHALLENGE, "authenticatedRandomId", "AUTHENTICATED, Random ID on: READ 00h shows all, and WRITE 29h switches it off.",
      [RANDOM_ID],
      [sent(read(0x00), 0, data(stored(0x00, 0x03))), sent(write(0x29, "0000003c"), 0)], [page(0x29, hexed("0000003c"))], "Authenticated"),
     ("Authenticated", NO_CHALLENGE, "authenticatedConfigLocked", "AUTHENTICATED, LOCK_USR_CFG set: WRITE 29h with another Random ID bit is 7.",
-     [CONFIG_LOCKED], [sent(write(0x29, "0100003c"), 7)], [], "Waiting"),
+     [CONFIG_LOCKED], [stopped(6, write(0x29, "0100003c"), 7)], [], "Waiting"),
     ("Traceable", NO_CHALLENGE, "traceableRead", "TRACEABLE, AUTH0 04h with PROT: READ 04h is 6.", [AUTH0_04, PROT], [sent(read(0x04), 6)], [],
      "Waiting"),
     ("Traceable", NO_CHALLENGE, "traceableWraps", "TRACEABLE, AUTH0 04h with PROT, Random ID on: READ 03h continues at page 00h and shows it.",
      [OTP_PAGE, auth0(0x04, 0x01), PROT], [sent(read(0x03), 0, data(OTP + stored(0x00, 0x02)))], [], "Traceable"),
-    ("Traceable", NO_CHALLENGE, "traceableWrite", "TRACEABLE, AUTH0 04h: WRITE 04h is 6.", [AUTH0_04], [sent(write(0x04, "11223344"), 6)], [],
+    ("Traceable", NO_CHALLENGE, "traceableWrite", "TRACEABLE, AUTH0 04h: WRITE 04h is 6.", [AUTH0_04], [stopped(1, write(0x04, "11223344"), 6)], [],
      "Waiting"),
     ("Traceable", NO_CHALLENGE, "traceableReadCnt", "TRACEABLE, counter 2 closed: READ_CNT 2 is 6.", [CLOSED], [sent(read_cnt(2), 6)], [],
      "Waiting"),
@@ -769,9 +806,9 @@ BEGUN = [
     ("Traceable", NO_CHALLENGE, "traceableRandomId", "TRACEABLE: WRITE 29h switches Random ID on, and READ 00h still shows all.", [],
      [sent(write(0x29, "0100003c"), 0), sent(read(0x00), 0, data(stored(0x00, 0x03)))], [RANDOM_ID], "Traceable"),
     ("Traceable", NO_CHALLENGE, "traceableRandomIdAuth0", "TRACEABLE, AUTH0 29h: WRITE 29h is 6.", [auth0(0x29)],
-     [sent(write(0x29, "01000029"), 6)], [], "Waiting"),
+     [stopped(1, write(0x29, "01000029"), 6)], [], "Waiting"),
     ("Traceable", NO_CHALLENGE, "traceableConfigLocked", "TRACEABLE, LOCK_USR_CFG set: WRITE 29h with another Random ID bit is 7.", [CONFIG_LOCKED],
-     [sent(write(0x29, "0100003c"), 7)], [], "Waiting"),
+     [stopped(6, write(0x29, "0100003c"), 7)], [], "Waiting"),
 ]
 
 
@@ -827,8 +864,9 @@ def of_line(line):
         return "powered"
     if line[0] == "select":
         return "selected"
-    _, frame, random, number, reply = line
-    return ("sent" if random == SPARE else "sentWith " + hexes(random)) + " %s %d %s" % (of_frame(frame), number, of_reply(reply))
+    _, frame, random, number, reply, place = line
+    call = "stopped %d" % place if place else "sent" if random == SPARE else "sentWith " + hexes(random)
+    return call + " %s %d %s" % (of_frame(frame), number, of_reply(reply))
 
 
 def wrapped(words, indent):
@@ -933,10 +971,10 @@ FULL_IMAGE = [counter(0, 0x030201), counter(1, 0x060504), counter(2, 0xFFFFFF), 
 FULL_TAG = "held (0x030201 ∷ 0x060504 ∷ 0xffffff ∷ []) 1023 challenge st"
 LISTS = [
     ("nothingWrong", "With nothing wrong the three frames are 0, 2 and 1, and a longer reply buffer is as good. 1 keeps the record as it came.", [
-        "framed (sound Active) pages read04 spare 242 (record { number = 0; said = pages04; tag = soundLeft Active; store = pages })",
-        "framed (sound Active) pages read04 spare 300 (record { number = 0; said = pages04; tag = soundLeft Active; store = pages })",
-        "framed (sound Active) pages [] spare 242 (record { number = 2; said = nibble 0x1; tag = soundLeft Waiting; store = pages })",
-        "framed (sound Waiting) pages read04 spare 242 (record { number = 1; said = silence; tag = sound Waiting; store = pages })",
+        "framed (sound Active) pages read04 spare 242 (record { number = 0; said = pages04; reason = Open; tag = soundLeft Active; store = pages })",
+        "framed (sound Active) pages read04 spare 300 (record { number = 0; said = pages04; reason = Open; tag = soundLeft Active; store = pages })",
+        "framed (sound Active) pages [] spare 242 (record { number = 2; said = nibble 0x1; reason = Open; tag = soundLeft Waiting; store = pages })",
+        "framed (sound Waiting) pages read04 spare 242 (record { number = 1; said = silence; reason = Open; tag = sound Waiting; store = pages })",
     ]),
     ("storeOf239", "A store of 239 bytes: 10.", "tenFirst sound (take 239 pages) spare 242"),
     ("storeOf241", "A store of 241 bytes: 10.", "tenFirst sound (pages ++ (0x00 ∷ [])) spare 242"),

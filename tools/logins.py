@@ -86,7 +86,8 @@ def reply_text(reply):
 def line_text(label, line):
     if line in (POWER, SELECT):
         return "%s,%s,0," % (label, "P" if line == POWER else "S")
-    _, frame, random, number, reply = line
+    # the last is the place of the rule that stops a WRITE: none of the sessions has one
+    _, frame, random, number, reply, _ = line
     return ",".join([label, frame.hex(), "%x" % number, reply_text(reply)] + ([] if random == SPARE else [random.hex()]))
 
 

@@ -41,6 +41,10 @@ class Script:
         sent = bytes.fromhex(text)
         self.add("F " + sent.hex(), str(number) + (" " + data.hex() if data else ""), words)
 
+    def stopped(self, text, number, place, words):
+        """A WRITE that a rule stops: its place is printed."""
+        self.add("F " + bytes.fromhex(text).hex(), "%d %d" % (number, place), words + "; " + ENDED)
+
     def page(self, p):
         return tagimage.page_bytes(self.image, p)
 
@@ -114,7 +118,7 @@ def lock_bits(s):
     s.frame("a2 04 444f4f52", 0, b"", "WRITE 04: stored")
     s.frame("a2 02 00001000", 0, b"", "WRITE 02 with lock byte 0 at 10h: page 04 is locked")
     lock_page("1000", "FAST_READ 02: the lock bit is set, the first two bytes are as before")
-    s.frame("a2 04 00000000", 7, b"", "WRITE 04: locked; " + ENDED)
+    s.stopped("a2 04 00000000", 7, 3, "WRITE 04: locked by its own lock bit")
     s.select()
     s.frame("3a 04 04", 0, bytes.fromhex("444f4f52"), "FAST_READ 04: still what was stored before the lock")
     s.frame("a2 02 00000000", 0, b"", "WRITE 02 with zeros: answered 0, and no bit is cleared")
@@ -125,11 +129,11 @@ def lock_bits(s):
     s.frame("a2 05 01020304", 0, b"", "WRITE 05: page 05 is not locked, and cannot be locked any more")
     s.frame("a2 02 00000900", 0, b"", "WRITE 02 with block-lock bit 0 and the lock bit of page 03 in one write")
     lock_page("1b00", "FAST_READ 02: both are set, since the block-lock bits before the write decide")
-    s.frame("a2 03 01000000", 7, b"", "WRITE 03 (OTP): locked; " + ENDED)
+    s.stopped("a2 03 01000000", 7, 3, "WRITE 03 (OTP): locked by its own lock bit")
     s.select()
     s.frame("a2 28 01000100", 0, b"", "WRITE 28: pages 10 and 11 are locked by one bit, and the lock bits of 10 to 13 frozen")
     pair_page("01000100", "FAST_READ 28: lock bytes 2 to 4")
-    s.frame("a2 11 00000000", 7, b"", "WRITE 11: locked; " + ENDED)
+    s.stopped("a2 11 00000000", 7, 4, "WRITE 11: locked by the lock bit that it shares with page 10")
     s.select()
     s.frame("a2 28 02000000", 0, b"", "WRITE 28 with the lock bit of 12 and 13: frozen, and the answer is 0")
     s.power()
@@ -139,6 +143,31 @@ def lock_bits(s):
 
 
 DATA_PROT_KEY = bytes(range(16))
+
+
+def refused_writes(s):
+    s.select()
+    s.stopped("a2 2e 00000000", 6, 1, "WRITE 2E: at or above AUTH0, a login is needed")
+    s.select()
+    s.stopped("a2 29 0000002e", 6, 2, "WRITE 29: the Random ID bit would change in ACTIVE")
+    s.select()
+    s.stopped("a2 04 00000000", 7, 3, "WRITE 04: locked by its own lock bit")
+    s.select()
+    s.stopped("a2 13 00000000", 7, 4, "WRITE 13: locked by the lock bit that it shares with page 12")
+    s.select()
+    s.stopped("a2 2d 00000000", 7, 5, "WRITE 2D: locked by BLOCK_LOCK_KEY, which counts as a key lock")
+    s.select()
+    s.stopped("a2 2a 80050000", 7, 6, "WRITE 2A: the configuration is locked")
+    s.frame("a2 2a 80050000", 1, b"", "WRITE 2A: the tag is WAITING and silent; the reason was that one answer's")
+    s.select()
+    s.stopped("a2 29 0100002e", 7, 6, "WRITE 29 with the Random ID bit as it is: behind it the configuration lock shows")
+    s.select()
+    s.stopped("a2 30 00000000", 6, 1, "WRITE 30: the key is locked too, but AUTH0 comes first")
+    s.select()
+    s.login(0, DATA_PROT_KEY, "AUTHENTICATED")
+    s.stopped("a2 30 00000000", 7, 5, "WRITE 30: logged in, and the key lock shows")
+    s.select()
+    s.frame("30 2e", 6, b"", "READ 2E: a login is needed, and only a WRITE tells a reason; " + ENDED)
 
 
 def garbled_frame(s):
@@ -169,6 +198,8 @@ def login_data_prot(s):
     s.frame("30 04", 6, b"", "READ 04: at or above AUTH0, a login is needed; " + ENDED)
     s.select()
     s.frame("39 02", 6, b"", "READ_CNT 2: closed without a login; " + ENDED)
+    s.select()
+    s.stopped("a2 06 47415445", 6, 1, "WRITE 06: at or above AUTH0 too")
     s.select()
     s.login(0, DATA_PROT_KEY, "AUTHENTICATED")
     s.frame("30 04", 0, s.pages(0x04, 0x07), "READ 04: the page shows")
@@ -212,6 +243,7 @@ SAMPLES = [
     (example, "Document 01's example: a counter at 10, and a refused write that ends the session."),
     (ten_rides, "A ten-ride ticket: ten increments, the byte order of the counter, and its highest value."),
     (lock_bits, "Lock bits that stay set, and block-lock bits that freeze them."),
+    (refused_writes, "Why a WRITE is refused: the six rules, and the first of them where several bar a page."),
     (garbled_frame, "A damaged frame ends a login. The bench program makes the right CRC itself, so damage is an unknown code or a wrong length here."),
     (login_data_prot, "A login with DataProtKey opens protected pages and counter 2."),
     (login_uid_retr, "A login with UIDRetrKey shows the serial number while Random ID is on."),

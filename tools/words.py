@@ -28,6 +28,15 @@ REFUSED = {
     "11": "refused: too many failed logins",
     "12": "the image is refused, or cannot be opened; tools/show_image.py says why",
 }
+# why a WRITE was refused, by what is printed behind the number
+REASONS = {
+    "1": "the page is at or above AUTH0, a login is needed",
+    "2": "the Random ID bit would change in ACTIVE, a login is needed",
+    "3": "locked by the page's own lock bit",
+    "4": "locked by the lock bit of its two pages",
+    "5": "locked by a key lock, a bit of LOCK_KEYS",
+    "6": "locked by the configuration lock, LOCK_USR_CFG",
+}
 CONTROLS = {0x09: "\\t", 0x0D: "\\r", 0x5C: "\\\\"}
 KEYS = {0: ("DataProtKey", "AUTHENTICATED"), 1: ("UIDRetrKey", "TRACEABLE"), 2: ("OriginalityKey", "ACTIVE")}
 
@@ -50,14 +59,15 @@ class Words:
         if answer.startswith("bad line"):
             ending = ". It ends with a carriage return: save the file with plain line ends" if line.endswith("\\r") and not line.endswith("\\\\r") else ""
             return "not a line of a script: the program stops" + ending
-        number, _, data = answer.partition(" ")
+        number, _, more = answer.partition(" ")
         if line in ("P", "S"):
             return "power off and on: the tag is WAITING" if line == "P" else "the tag is selected: ACTIVE"
-        command, done = self.told(bytes.fromhex(line[2:]), bytes.fromhex(data))
+        command, done = self.told(bytes.fromhex(line[2:]), bytes.fromhex(more if number == "0" else ""))
         if number == "0":
             return "%s: %s" % (command, done)
+        why = "refused: " + REASONS[more] if more in REASONS else REFUSED.get(number, "answer " + number)
         ended = "" if number == "1" else "; the session is ended"
-        return "%s: %s%s" % (command, REFUSED.get(number, "answer " + number), ended)
+        return "%s: %s%s" % (command, why, ended)
 
     def told(self, frame, data):
         """The command of a frame, and what it came to if it was carried out."""

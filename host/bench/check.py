@@ -8,6 +8,7 @@
 Each test is a function that gives a list of what is wrong. The program is the one of program.py.
 """
 
+import collections
 import multiprocessing
 import os
 import random
@@ -27,6 +28,8 @@ import program
 
 INPUTS = 10_000
 BLOCKS = 10
+# from so many random inputs on, each reason for a refused WRITE must be among them
+ENOUGH = 1_000
 SAMPLES = os.path.join(program.ROOT, "samples")
 
 
@@ -60,8 +63,16 @@ def samples():
 
 # ---- random inputs
 
+# what a refused WRITE prints: the number, and the place of the rule that stopped it
+REFUSED_WRITES = [b"6 1", b"6 2", b"7 3", b"7 4", b"7 5", b"7 6"]
+
+
+def refused_writes(output):
+    return collections.Counter(line for line in output.split(b"\n") if line in REFUSED_WRITES)
+
+
 def played(i, folder):
-    """One random input; every eighth script goes through a pipe, the others are files."""
+    """One random input; every eighth script goes through a pipe, the others are files. What is wrong, and the refused WRITEs that were to be printed."""
     image, script = inputs.some_input(i)
     path, text = write(image, folder, "image"), write(script, folder, "script")
     try:
@@ -72,27 +83,37 @@ def played(i, folder):
                 ended = program.run([path], stdin=f)
     except program.Hangs as error:
         raise program.Hangs("input %d: %s" % (i, error)) from None
-    return wrong("input %d" % i, ended, oracle.output(image, script))
+    expected = oracle.output(image, script)
+    return wrong("input %d" % i, ended, expected), refused_writes(expected)
 
 
 def stretch(numbers):
+    found, refused = [], collections.Counter()
     with tempfile.TemporaryDirectory() as folder:
-        return [message for i in numbers for message in played(i, folder)]
+        for i in numbers:
+            messages, more = played(i, folder)
+            found += messages
+            refused += more
+    return found, refused
 
 
-def random_block(pool, numbers):
+def random_block(pool, numbers, met):
     parts = [numbers[n:n + 25] for n in range(0, len(numbers), 25)]
-    return sum(pool.map(stretch, parts, chunksize=1), [])
+    found = []
+    for messages, refused in pool.map(stretch, parts, chunksize=1):
+        found += messages
+        met.update(refused)
+    return found
 
 
-def random_inputs(count, number):
-    """Blocks of inputs 0 to number - 1; how many inputs were played."""
+def random_inputs(count, number, met):
+    """Blocks of inputs 0 to number - 1; how many inputs were played. The refused WRITEs are counted in met."""
     played_inputs = 0
     with multiprocessing.Pool(os.cpu_count()) as pool:
         for block in range(BLOCKS):
             numbers = range(number * block // BLOCKS, number * (block + 1) // BLOCKS)
             name = "random inputs %d to %d, as oracle.py plays them" % (numbers.start, numbers.stop - 1)
-            if numbers and not count.test(name, random_block, pool, numbers):
+            if numbers and not count.test(name, random_block, pool, numbers, met):
                 break
             played_inputs += len(numbers)
     return played_inputs
@@ -170,9 +191,24 @@ LINE_CASES = [
 ]
 
 
-def lines():
+# nothing is locked in the image, and AUTH0 protects nothing: each script sets what then bars a page
+REASON_CASES = [
+    ("AUTH0, and a page below it", b"S\nF a22900000004\nF a20400000000\nS\nF a20300000000\n", b"0\n0\n6 1\n0\n0\n"),
+    ("reading at AUTH0 has no reason", b"S\nF a22900000004\nF 3004\nS\nF 3a0404\n", b"0\n0\n6\n0\n6\n"),
+    ("Random ID bit, and the next line", b"S\nF a2290100003c\nF a2290100003c\n", b"0\n6 2\n1\n"),
+    ("own lock bit", b"S\nF a20200001080\nF a20400000000\nS\nF a20f00000000\n", b"0\n0\n7 3\n0\n7 3\n"),
+    ("pair lock bit", b"S\nF a22801080000\nF a21100000000\nS\nF a22700000000\n", b"0\n0\n7 4\n0\n7 4\n"),
+    ("key locks", b"S\nF a22de0000000\nF a23000000000\nS\nF a23700000000\nS\nF a22d00000000\n", b"0\n0\n7 5\n0\n7 5\n0\n7 5\n"),
+    ("configuration lock, and Random ID before it", b"S\nF a22a4c050000\nF a22a0c050000\nS\nF a2290100003c\n", b"0\n0\n7 6\n0\n6 2\n"),
+    ("AUTH0 before a lock", b"S\nF a22de0000000\nF a2290000002d\nF a22d00000000\nS\nF a23400000000\n", b"0\n0\n0\n6 1\n0\n6 1\n"),
+    ("a closed counter has no reason", b"S\nF a22a80050000\nF 3902\nS\nF a50201000000\n", b"0\n0\n6\n0\n6\n"),
+    ("a page that can't be written has no reason", b"S\nF a22900000000\nF a20100000000\nS\nF a23c00000000\n", b"0\n0\n5\n0\n5\n"),
+]
+
+
+def scripted(cases):
     image = os.path.join(SAMPLES, "example", "tag.image")
-    return [message for name, script, expected in LINE_CASES for message in wrong(name, program.run([image], script), expected)]
+    return [message for name, script, expected in cases for message in wrong(name, program.run([image], script), expected)]
 
 
 # ---- talking line by line
@@ -283,7 +319,9 @@ TESTS = [
     ("images from settings load", check_tools.made_images_load),
     ("samples", samples),
     ("samples in words", check_tools.words),
-    ("lines, one rule at a time", lines),
+    ("why a WRITE was refused, in words", check_tools.words_of_reasons),
+    ("lines, one rule at a time", lambda: scripted(LINE_CASES)),
+    ("why a WRITE was refused, one rule at a time", lambda: scripted(REASON_CASES)),
     ("refused images and missing files", refused_images),
     ("wrong check bytes of the serial number", wrong_check_bytes),
     ("an image through a named pipe, in two halves", piped_image),
@@ -326,8 +364,12 @@ def everything(number, least):
         count.test("the program", lambda: ["%s is not there" % program.PROGRAM[0]])
         return count.closed()
     if all(count.test(name, function) for name, function in TESTS):
-        done = random_inputs(count, number)
+        met = collections.Counter()
+        done = random_inputs(count, number, met)
         count.test("%d random inputs played" % done, lambda: [] if done >= least else ["fewer than %d" % least])
+        if number >= ENOUGH:
+            counts = ", ".join("%s: %d" % (line.decode(), met[line]) for line in REFUSED_WRITES)
+            count.test("refused WRITEs among them, by what is printed: %s" % counts, lambda: [line.decode() for line in REFUSED_WRITES if not met[line]])
     return count.closed()
 
 

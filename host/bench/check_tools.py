@@ -79,10 +79,11 @@ def played_row(tag, row):
         elif line[0] in ("select", "toActive"):
             tag.select()
         else:
-            _, frame, rnd, number, reply = line
+            _, frame, rnd, number, reply, place = line
             got = tag.frame(frame, rnd)
             data = got[1] + oracle.crc_a(got[1]) if isinstance(got[1], bytes) else None
             found += unless(got[0] == number, "%s: number %d, expected %d" % (name, got[0], number))
+            found += unless(got[2] == place, "%s: place %d, expected %d" % (name, got[2], place))
             found += unless(data == (reply[1] if reply[0] == "bytes" else None), "%s: another reply" % name)
     found += unless(held(tag) == patched(cases.BASE, changes + changed), "%s: other bytes are stored" % name)
     return found + unless(tag.state == state.upper() and (tag.state == "CHALLENGED" or tag.challenge == bytes(16)), "%s: %s" % (name, tag.state))
@@ -179,6 +180,26 @@ def words():
         status, text = tool("words.py", os.path.join(samples.FOLDER, builder.__name__))
         right = status == 0 and text.startswith(title) and text.endswith("Every answer is the expected one.\n")
         found += unless(right, "%s: %s" % (builder.__name__, text[-200:]))
+    return found
+
+
+# what must be said beside each answer of samples/refused_writes: why, where the answer tells it
+SAID = {
+    "6 1": "refused: the page is at or above AUTH0",
+    "6 2": "refused: the Random ID bit would change",
+    "7 3": "refused: locked by the page's own lock bit",
+    "7 4": "refused: locked by the lock bit of its two pages",
+    "7 5": "refused: locked by a key lock",
+    "7 6": "refused: locked by the configuration lock",
+    "6": "refused: a login is needed;",
+}
+
+
+def words_of_reasons():
+    found, lines = [], tool("words.py", os.path.join(samples.FOLDER, "refused_writes"))[1].split("\n")
+    for answer, said in SAID.items():
+        beside = [line for line in lines if "-> %-30s " % answer in line]
+        found += unless(beside and all(said in line for line in beside), "beside %s: %s" % (answer, beside))
     return found
 
 

@@ -3,8 +3,8 @@
 
     host/bench/oracle.py IMAGE < LINES     plays the lines, as the bench program does
 
-Written from document 01 with request E1 of document 02, the data sheet 009, docs/DATASHEET.md and docs/DECISIONS.md (D1 to D40), and from nothing of the
-proved program: neither its definitions nor its code. It has an AES-128 and a CRC_A of its own. Python 3, no library.
+Written from document 01 with requests E1, E3 and E6 of document 02, the data sheet 009, docs/DATASHEET.md and docs/DECISIONS.md (D1 to D40, D68 and
+D69), and from nothing of the proved program: neither its definitions nor its code. It has an AES-128 and a CRC_A of its own. Python 3, no library.
 """
 
 import os
@@ -164,19 +164,22 @@ LEADS_TO = [AUTHENTICATED, TRACEABLE, ACTIVE]
 FREEZES_LOW = [(0x08, 0x00), (0xF0, 0x03), (0x00, 0xFC)]
 FREEZES_HIGH = [(0x03, 0x00), (0x0C, 0x00), (0x30, 0x00), (0xC0, 0x00), (0x00, 0x03), (0x00, 0x0C)]
 ACK, SILENCE = "ACK", None
+# why a WRITE is refused, by the places of request E6's order
+BY_AUTH0, BY_RANDOM_ID, BY_OWN_LOCK, BY_PAIR_LOCK, BY_KEY_LOCK, BY_CONFIGURATION_LOCK = range(1, 7)
+NO_REASON = 0
 
 
 class Refused(Exception):
-    """A number of document 01 above 0."""
+    """A number of document 01 above 0, and why a WRITE got it."""
 
-    def __init__(self, number):
+    def __init__(self, number, reason=NO_REASON):
         Exception.__init__(self, number)
-        self.number = number
+        self.number, self.reason = number, reason
 
 
-def refuse(when, number):
+def refuse(when, number, reason=NO_REASON):
     if when:
-        raise Refused(number)
+        raise Refused(number, reason)
 
 
 def check_byte(start, serial):
@@ -200,7 +203,8 @@ def frozen(block_bits, table):
 
 
 class Tag:
-    """The tag of an image, in WAITING. Its calls are power, select and frame; a frame gives a number and a reply: bytes without CRC, ACK or silence."""
+    """The tag of an image, in WAITING. Its calls are power, select and frame; a frame gives a number, a reply (bytes without CRC, ACK or silence) and why
+    a WRITE was refused."""
 
     def __init__(self, image):
         if len(image) != 271 or (image[0], image[241], image[251], image[254]) != (60, 3, 1, 1):
@@ -224,16 +228,16 @@ class Tag:
 
     def frame(self, frame, random):
         if self.state == WAITING:
-            return 1, SILENCE
+            return 1, SILENCE, NO_REASON
         try:
             refuse(not 3 <= len(frame) <= 64 or crc_a(frame[:-2]) != frame[-2:], 2)
             reply = self.command(frame, random)
             if self.state != CHALLENGED:
                 self.challenge = bytes(16)
-            return 0, reply
+            return 0, reply, NO_REASON
         except Refused as refusal:
             self.enter(WAITING)
-            return refusal.number, "NAK"
+            return refusal.number, "NAK", refusal.reason
 
     def command(self, frame, random):
         code = frame[0]
@@ -298,24 +302,26 @@ class Tag:
 
     # writing (sections 3 to 5, 8 and 10)
 
-    def locked(self, page):
+    def lock(self, page):
+        """Whether a page is locked, and by what."""
         if 0x03 <= page <= 0x0F:
-            return (self.byte(0x02, 2) + 256 * self.byte(0x02, 3)) >> page & 1
+            return (self.byte(0x02, 2) + 256 * self.byte(0x02, 3)) >> page & 1, BY_OWN_LOCK
         if 0x10 <= page <= 0x27:
-            return (self.byte(0x28, 0) + 256 * self.byte(0x28, 1)) >> (page - 0x10) // 2 & 1
+            return (self.byte(0x28, 0) + 256 * self.byte(0x28, 1)) >> (page - 0x10) // 2 & 1, BY_PAIR_LOCK
         if page in (0x29, 0x2A):
-            return self.cfg_1(0x40)
+            return self.cfg_1(0x40), BY_CONFIGURATION_LOCK
         if page == 0x2D:
-            return self.byte(0x2D, 0) & 0x20
+            return self.byte(0x2D, 0) & 0x20, BY_KEY_LOCK
         if 0x30 <= page <= 0x33:
-            return self.byte(0x2D, 0) & 0x40
-        return 0x34 <= page <= 0x37 and self.byte(0x2D, 0) & 0x80
+            return self.byte(0x2D, 0) & 0x40, BY_KEY_LOCK
+        return 0x34 <= page <= 0x37 and self.byte(0x2D, 0) & 0x80, BY_KEY_LOCK
 
     def write(self, page, data):
         refuse(not 0x02 <= page <= 0x3B, 5)
-        refuse(self.state != AUTHENTICATED and page >= self.auth0(), 6)
-        refuse(page == 0x29 and self.state == ACTIVE and (data[0] ^ self.random_id()) & 0x01, 6)
-        refuse(self.locked(page), 7)
+        refuse(self.state != AUTHENTICATED and page >= self.auth0(), 6, BY_AUTH0)
+        refuse(page == 0x29 and self.state == ACTIVE and (data[0] ^ self.random_id()) & 0x01, 6, BY_RANDOM_ID)
+        locked, by = self.lock(page)
+        refuse(locked, 7, by)
         old = self.store[4 * page:4 * page + 4]
         self.store[4 * page:4 * page + 4] = self.written(page, old, data)
         return ACK
@@ -407,8 +413,9 @@ def answer(tag, n, line):
     data = frame_of(line)
     if data is None:
         return None
-    number, reply = tag.frame(data + crc_a(data), bytes([n % 256]) * 16)
-    return b"%d" % number + (b" " + reply.hex().encode() if isinstance(reply, bytes) else b"")
+    number, reply, reason = tag.frame(data + crc_a(data), bytes([n % 256]) * 16)
+    more = reply.hex() if isinstance(reply, bytes) else str(reason) if reason else ""
+    return b"%d" % number + (b" " + more.encode() if more else b"")
 
 
 def printed(tag, lines):

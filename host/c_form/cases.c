@@ -7,7 +7,7 @@
 #include "check.h"
 #include "sound.h"
 
-enum { MOST_WORDS = 6, LONGEST_LINE = 2048, MOST_BYTES = 512 };
+enum { MOST_WORDS = 7, LONGEST_LINE = 2048, MOST_BYTES = 512 };
 
 struct bytes {
     uint8_t at[MOST_BYTES];
@@ -122,17 +122,17 @@ static void refuse(uint64_t answer) {
     run(SEND, answer, "%s, line %u", name, line_number);
 }
 
-/* frame BYTES RANDOM NUMBER KIND REPLY */
+/* frame BYTES RANDOM NUMBER REASON KIND REPLY */
 static void frame(char *words[]) {
     const struct bytes sent = bytes_of(words[1]), random = bytes_of(words[2]);
-    const unsigned number = (unsigned)atoi(words[3]);
+    const unsigned number = (unsigned)atoi(words[3]), reason = (unsigned)atoi(words[4]);
     uint64_t answer;
     lend(FRAME, sent.count, AT_END);
     put(FRAME, 0, sent.at, sent.count);
     lend(RANDOM, random.count, AT_END);
     put(RANDOM, 0, random.at, random.count);
     expect_nothing();
-    answer = number | expect_reply(words[4], words[5]);
+    answer = number | reason << 24 | expect_reply(words[5], words[6]);
     if (number == KZ_CARRIED_OUT) {
         carry_out(answer);
     } else if (number == KZ_TAG_WAITING) {
@@ -178,7 +178,7 @@ static int played(char *words[], int count) {
         enter(words);
     } else if (strcmp(kind, "power") == 0 || strcmp(kind, "select") == 0) {
         event(kind[0] == 'p' ? POWER : SELECT, kind[0] == 'p' ? KZ_STATE_WAITING : KZ_STATE_ACTIVE);
-    } else if (strcmp(kind, "frame") == 0 && count == 6) {
+    } else if (strcmp(kind, "frame") == 0 && count == 7) {
         frame(words);
     } else if (strcmp(kind, "end") == 0 && count == 3) {
         end(words);

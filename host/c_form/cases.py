@@ -40,8 +40,8 @@ def reply_text(reply):
 def line_text(line):
     if line[0] != "frame":
         return {"power": "power", "select": "select", "toActive": "select"}[line[0]]
-    _, frame, random, number, reply = line
-    return "frame %s %s %d %s" % (hexes(frame), hexes(random), number, reply_text(reply))
+    _, frame, random, number, reply, place = line
+    return "frame %s %s %d %d %s" % (hexes(frame), hexes(random), number, place, reply_text(reply))
 
 
 def state_text(state):

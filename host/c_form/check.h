@@ -62,6 +62,7 @@ void length_tests(void);
 void long_length_tests(void);
 void record_tests(void);
 void image_tests(void);
+void reason_tests(void);
 void case_tests(const char *path);
 
 #endif

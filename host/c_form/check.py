@@ -62,7 +62,7 @@ def lines_differ(name, got, wanted):
 
 # ---- the tests in C
 
-SOURCES = ["main", "check", "crc", "sound", "lengths", "longs", "records", "images", "header", "cases"]
+SOURCES = ["main", "check", "crc", "sound", "lengths", "longs", "records", "images", "reasons", "header", "cases"]
 
 
 def cases_written():

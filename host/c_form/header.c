@@ -17,6 +17,11 @@ static int names(void) {
            KZ_KEY_DATA_PROT == 0 && KZ_KEY_UID_RETR == 1 && KZ_KEY_ORIGINALITY == 2;
 }
 
+static int reasons(void) {
+    return KZ_REASON_NONE == 0 && KZ_REASON_AUTH0 == 1 && KZ_REASON_RANDOM_ID == 2 && KZ_REASON_OWN_LOCK == 3 && KZ_REASON_PAIR_LOCK == 4 &&
+           KZ_REASON_KEY_LOCK == 5 && KZ_REASON_CONFIG_LOCK == 6;
+}
+
 static int sizes(void) {
     return KZ_RECORD_SIZE == 48 && KZ_STORE_SIZE == 240 && KZ_REPLY_SIZE == 242 && KZ_IMAGE_SIZE == 271 && KZ_RANDOM_SIZE == 16;
 }
@@ -61,6 +66,7 @@ static int calls(void) {
 const char *header_wrong(void) {
     return !numbers() ? "a number"
            : !names() ? "a state, a kind of reply or a key"
+           : !reasons() ? "a reason"
            : !sizes() ? "a size"
            : !answers() ? "a part of the answer"
            : !fields() ? "a field of the record"

@@ -23,6 +23,7 @@ int main(int argc, char **argv) {
     long_length_tests();
     record_tests();
     image_tests();
+    reason_tests();
     case_tests(argv[1]);
     return tests_counted();
 }

@@ -81,7 +81,7 @@ fn possible_numbers(command: usize, state: usize) -> Vec<u8> {
     numbers.iter().copied().filter(|&n| n != 6 || state != 3).collect()
 }
 
-/// Whether a call can be answered for this reason.
+/// Whether a call can be answered by this rule.
 fn possible_rule(call: Call, rule: Rule) -> bool {
     match (rule.number(), call) {
         (0, _) => true,

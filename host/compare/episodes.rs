@@ -11,9 +11,9 @@ use rust_tag::tag::State;
 
 type Play = fn(&mut Player) -> Step;
 
-const PLAYS: [Play; 18] = [
+const PLAYS: [Play; 19] = [
     wander, wander, wander, wander, climb, lock_bits, protection, random_id, counters, keys, frame_lengths, states_and_commands, odd_records,
-    odd_lengths, files, readings, check_bytes, windows,
+    odd_lengths, files, readings, check_bytes, windows, barred,
 ];
 
 /// Plays the episode of this seed.
@@ -170,6 +170,29 @@ fn protection(p: &mut Player) -> Step {
                 p.write(page, data)?;
             }
         }
+    }
+    Ok(())
+}
+
+/// WRITEs that one rule bars, or several: AUTH0 over locks of each kind and over the Random ID bit, after each login and after none. The
+/// frame behind a refusal is sent without a selection: it may tell no reason.
+fn barred(p: &mut Player) -> Step {
+    fresh(p, |r, image| {
+        image.set(0x02, 2, &[r.pick(&[0, 0xF8]), r.pick(&[0, 0xFF])]);
+        image.set(0x28, 0, &[r.pick(&[0, 0xFF]), r.pick(&[0, 0x0F])]);
+        image.set(0x29, 0, &[r.pick(&[0, 1])]);
+        image.set(0x29, 3, &[r.pick(&[0x00, 0x10, 0x29, 0x2A, 0x34, 0x3C, 0x3C])]);
+        image.set(0x2A, 0, &[r.pick(&[0x0C, 0x4C])]);
+        image.set(0x2D, 0, &[r.pick(&[0x00, 0x20, 0x40, 0x80, 0xE0])]);
+    })?;
+    for _ in 0..12 {
+        p.some_login()?;
+        p.awake()?;
+        let (own, pair, key) = (0x03 + p.r.below(13), 0x10 + p.r.below(24), 0x30 + p.r.below(8));
+        let page = p.r.pick(&[own, pair, key, 0x29, 0x29, 0x2A, 0x2D]) as u8;
+        let data = frames::write_data(&mut p.r, &p.pair.view(), page);
+        p.write(page, data)?;
+        p.made(frames::usual)?;
     }
     Ok(())
 }

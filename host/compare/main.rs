@@ -13,6 +13,7 @@ mod library;
 mod pair;
 mod player;
 mod random;
+mod reasons;
 mod scripts;
 mod table;
 
@@ -82,9 +83,10 @@ fn compare_calls(tally: &mut Tally, folder: &Path, calls: u64) {
     tally.failed += u64::from(!same);
     if same {
         let mut tables = pair.coverage.tables();
+        tables.push(pair.reasons.table());
         tables.extend(pair.effects.tables());
         tables.iter().for_each(Table::print);
-        tally.judge(&tables, &pair.coverage.surprises());
+        tally.judge(&tables, &[pair.coverage.surprises(), pair.reasons.surprises()].concat());
     }
 }
 
@@ -118,7 +120,7 @@ fn compare_scripts(tally: &mut Tally, folder: &Path, program: &Path) {
     if going {
         let tables = scripts.tables();
         tables.iter().for_each(Table::print);
-        tally.judge(&tables, &scripts.coverage.surprises());
+        tally.judge(&tables, &scripts.surprises());
     }
 }
 

@@ -6,6 +6,7 @@ use crate::effects::{Effects, Seen};
 use crate::frames::View;
 use crate::library;
 use crate::random::Random;
+use crate::reasons::{Met, Reasons};
 use rust_tag::c_form::{by_rule, record_of, RECORD_LEN};
 use rust_tag::rules::Rule;
 use rust_tag::tag::{Record, Store, IMAGE_LEN, RANDOM_LEN, REPLY_LEN, STORE_LEN};
@@ -128,12 +129,14 @@ pub struct Pair {
     pub calls: u64,
     pub coverage: Coverage,
     pub effects: Effects,
+    pub reasons: Reasons,
 }
 
 impl Pair {
     pub fn new() -> Pair {
         let (rust, library) = (Side::new(), Side::new());
-        Pair { rust, library, journal: Vec::new(), calls: 0, coverage: Coverage::new(false), effects: Effects::new() }
+        let (coverage, effects, reasons) = (Coverage::new(false), Effects::new(), Reasons::new());
+        Pair { rust, library, journal: Vec::new(), calls: 0, coverage, effects, reasons }
     }
 
     /// Both sides start with the same random bytes in every buffer, so a run of calls depends on its seed alone.
@@ -240,7 +243,11 @@ impl Pair {
         let (frame, file) = (self.rust.frame.part(lens.frame), self.rust.file.part(lens.file));
         let seen = Seen { call, lens, before: &before, after: &after, frame, file, rule };
         match call {
-            Call::Frame => self.coverage.note_frame(before.record.state, seen.frame, rule),
+            Call::Frame => {
+                let met = Met { state: before.record.state, store: &before.store };
+                self.reasons.note(&met, seen.frame, rule.number(), (answer >> 24) as u8);
+                self.coverage.note_frame(before.record.state, seen.frame, rule);
+            }
             _ => self.coverage.note(call, rule),
         }
         self.effects.note(&seen);

@@ -5,6 +5,7 @@ use crate::frames::{self, View};
 use crate::images::{self, Image};
 use crate::pair::hex;
 use crate::random::Random;
+use crate::reasons::{Met, Reasons};
 use crate::table::Table;
 use rust_tag::bench;
 use rust_tag::rules::Rule;
@@ -57,11 +58,13 @@ struct Bench<'a> {
     store: Store,
     lines: usize,
     coverage: &'a mut Coverage,
+    reasons: &'a mut Reasons,
 }
 
 impl Bench<'_> {
     fn play(&mut self, line: &Line) {
         self.lines += 1;
+        let before = self.store;
         let answer = match line {
             Line::Power => tag::power(self.record),
             Line::Select => tag::select(self.record),
@@ -73,7 +76,11 @@ impl Bench<'_> {
         match line {
             Line::Power => self.coverage.note(Call::Power, answer.rule),
             Line::Select => self.coverage.note(Call::Select, answer.rule),
-            Line::Frame(plain) => self.coverage.note_frame(self.record.state, &frames::with_crc(plain), answer.rule),
+            Line::Frame(plain) => {
+                let (met, frame) = (Met { state: self.record.state, store: &before }, frames::with_crc(plain));
+                self.reasons.note(&met, &frame, answer.number, answer.rule.reason());
+                self.coverage.note_frame(self.record.state, &frame, answer.rule);
+            }
         }
         self.record = answer.record;
     }
@@ -128,7 +135,8 @@ pub const AT_A_TIME: u64 = 8;
 pub struct Scripts {
     program: PathBuf,
     folder: PathBuf,
-    pub coverage: Coverage,
+    coverage: Coverage,
+    reasons: Reasons,
     bad_lines: [u64; BAD_LINES.len()],
     missing: u64,
     unended: u64,
@@ -139,8 +147,8 @@ pub struct Scripts {
 impl Scripts {
     pub fn new(program: &Path, folder: &Path) -> Scripts {
         let (program, folder) = (program.to_path_buf(), folder.to_path_buf());
-        let bad_lines = [0; BAD_LINES.len()];
-        Scripts { program, folder, coverage: Coverage::new(true), bad_lines, missing: 0, unended: 0, past_255: 0, lines: 0 }
+        let (coverage, reasons, bad_lines) = (Coverage::new(true), Reasons::new(), [0; BAD_LINES.len()]);
+        Scripts { program, folder, coverage, reasons, bad_lines, missing: 0, unended: 0, past_255: 0, lines: 0 }
     }
 
     fn some_image(&mut self, r: &mut Random) -> Option<Vec<u8>> {
@@ -174,7 +182,7 @@ impl Scripts {
     }
 
     fn lines_for(&mut self, r: &mut Random, record: Record, store: Store) -> Vec<u8> {
-        let mut bench = Bench { record, store, lines: 0, coverage: &mut self.coverage };
+        let mut bench = Bench { record, store, lines: 0, coverage: &mut self.coverage, reasons: &mut self.reasons };
         let (first, count) = (if r.chance(2) { 250 } else { 0 }, r.pick(&[0, 1, 3, 10, 40, 80, 150]));
         let mut text = Vec::new();
         for i in 0..first + count {
@@ -223,6 +231,7 @@ impl Scripts {
 
     pub fn tables(&self) -> Vec<Table> {
         let mut tables = self.coverage.tables();
+        tables.push(self.reasons.table());
         let mut table = Table::new("Lines and files");
         table.line("bad line", BAD_LINES.iter().zip(self.bad_lines).map(|(kind, n)| (kind.to_string(), n)));
         table.line("no image file", [(String::new(), self.missing)]);
@@ -230,6 +239,10 @@ impl Scripts {
         table.line("more than 255 lines", [(String::new(), self.past_255)]);
         tables.push(table);
         tables
+    }
+
+    pub fn surprises(&self) -> Vec<String> {
+        [self.coverage.surprises(), self.reasons.surprises()].concat()
     }
 }
 

@@ -1,15 +1,17 @@
--- The text of an answer: its number, after a space any data bytes in lower hex, and a newline.
+-- The text of an answer: its number, after a space the place of the rule that stopped a WRITE (E6), after a space any data bytes in lower hex, and a
+-- newline.
 --
 --     numberText n          the digits of a number below 100
 --     hexText ds            two digits for each byte
---     answerText n ds       the line that is printed for the number n and the data ds
+--     placeText k           a space and the place k, which is below 10; nothing for 0
+--     answerText n k ds     the line that is printed for the number n, the place k and the data ds
 --     WrittenAt ..          a text was laid over a buffer from a place on, and where it ends
 --
 -- Assumes nothing.
 use mathlib.Core.Path.{_≡_}
 use mathlib.Core.List.{List, [], _∷_, _++_}
 use mathlib.Core.Bool.{cond}
-use Prim.Native.Nat.{ℕ, _+_, _*_, _/_, _%_}
+use Prim.Native.Nat.{ℕ, zero, suc, _+_, _*_, _/_, _%_}
 use lib.Dec.{ltb, eqb}
 use lib.ListN.{length, getD}
 use lib.Seq.{sets}
@@ -37,9 +39,13 @@ unfoldable pub dataText : List ℕ → List ℕ
 dataText [] = []
 dataText (d ∷ ds) = 32 ∷ hexText (d ∷ ds)
 
+unfoldable pub placeText : ℕ → List ℕ
+placeText zero = []
+placeText (suc k) = 32 ∷ (48 + suc k) ∷ []
+
 -- a newline is 10
-unfoldable pub answerText : ℕ → List ℕ → List ℕ
-answerText n ds = numberText n ++ (dataText ds ++ (10 ∷ []))
+unfoldable pub answerText : ℕ → ℕ → List ℕ → List ℕ
+answerText n k ds = numberText n ++ (placeText k ++ (dataText ds ++ (10 ∷ [])))
 
 pub record WrittenAt (before after : List ℕ) (at end : ℕ) (text : List ℕ) : Type 0 where
   pub ends : end ≡ at + length text

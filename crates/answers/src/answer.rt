@@ -1,9 +1,9 @@
 // The text of an answer.
 ghost use mathlib.Core.Path.{_≡_};
-ghost use Prim.Native.Nat.{_≤_, _<_};
+ghost use Prim.Native.Nat.{_+_, _≤_, _<_};
 ghost use lib.ListN.{length};
 ghost use lib.Seq.{sets};
-ghost use Rattle.answers.specs.Answer.{letterOf, numberText, halfAt, letterAt, hexText, dataText, answerText, WrittenAt};
+ghost use Rattle.answers.specs.Answer.{letterOf, numberText, placeText, halfAt, letterAt, hexText, dataText, answerText, WrittenAt};
 
 // A hexadecimal digit.
 fn letter(d: u8) -> u8
@@ -44,7 +44,7 @@ fn put_number(out: &mut [u8], n: u8) -> usize
 
 // Two digits for each byte.
 fn put_hex(out: &mut [u8], at: usize, bytes: &[u8]) -> usize
-    requires { ⌜ at ≤ 3 ⌝ }
+    requires { ⌜ at ≤ 5 ⌝ }
     requires { ⌜ length (now bytes) ≤ 242 ⌝ }
     ensures { λ r. ⌜ WrittenAt (now (out .entry)) (now (out .exit)) at r (hexText (now (bytes .entry))) ⌝ }
 {
@@ -57,12 +57,27 @@ fn put_hex(out: &mut [u8], at: usize, bytes: &[u8]) -> usize
     at + j
 }
 
+// A space and the place of the rule that stopped a WRITE; nothing where none did.
+fn put_place(out: &mut [u8], at: usize, place: u8) -> usize
+    requires { ⌜ at ≤ 2 ⌝ }
+    requires { ⌜ place < 10 ⌝ }
+    ensures { λ r. ⌜ WrittenAt (now (out .entry)) (now (out .exit)) at r (placeText place) ⌝ }
+    ensures { λ r. ⌜ r ≤ at + 2 ⌝ }
+{
+    if place == 0 {
+        return at;
+    }
+    octets::put(out, at, b' ');
+    octets::put(out, at + 1, 48 + place);
+    at + 2
+}
+
 // A space and the digits; nothing for no data.
 fn put_data(out: &mut [u8], at: usize, bytes: &[u8]) -> usize
-    requires { ⌜ at ≤ 2 ⌝ }
+    requires { ⌜ at ≤ 4 ⌝ }
     requires { ⌜ length (now bytes) ≤ 242 ⌝ }
     ensures { λ r. ⌜ WrittenAt (now (out .entry)) (now (out .exit)) at r (dataText (now (bytes .entry))) ⌝ }
-    ensures { λ r. ⌜ r ≤ 487 ⌝ }
+    ensures { λ r. ⌜ r ≤ 489 ⌝ }
 {
     if bytes.len() == 0 {
         return at;
@@ -71,13 +86,15 @@ fn put_data(out: &mut [u8], at: usize, bytes: &[u8]) -> usize
     put_hex(out, at + 1, bytes)
 }
 
-// The line for a number and its data, at the start of a buffer; returns how long it is.
-pub fn answer(out: &mut [u8], number: u8, bytes: &[u8]) -> usize
+// The line for a number, a place and data, at the start of a buffer; returns how long it is.
+pub fn answer(out: &mut [u8], number: u8, place: u8, bytes: &[u8]) -> usize
+    requires { ⌜ place < 10 ⌝ }
     requires { ⌜ length (now bytes) ≤ 242 ⌝ }
-    ensures { λ r. ⌜ WrittenAt (now (out .entry)) (now (out .exit)) 0 r (answerText number (now (bytes .entry))) ⌝ }
-    ensures { λ r. ⌜ r ≤ 488 ⌝ }
+    ensures { λ r. ⌜ WrittenAt (now (out .entry)) (now (out .exit)) 0 r (answerText number place (now (bytes .entry))) ⌝ }
+    ensures { λ r. ⌜ r ≤ 490 ⌝ }
 {
-    let at = put_number(out, number);
+    let told = put_number(out, number);
+    let at = put_place(out, told, place);
     let end = put_data(out, at, bytes);
     octets::put(out, end, b'\n');
     end + 1

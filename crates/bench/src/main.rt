@@ -6,7 +6,7 @@ use libc::STDOUT_FILENO;
 // An image that is refused or can't be opened: its number and nothing more.
 fn refused(number: u8) {
     let mut text = io::buffer();
-    let n = answers::answer::answer(&mut text, number, b"");
+    let n = answers::answer::answer(&mut text, number, 0, b"");
     io::write_all(STDOUT_FILENO, &text[..n]);
 }
 

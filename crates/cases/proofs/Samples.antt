@@ -1,7 +1,7 @@
 -- The samples of specs/Samples.antt, by computing.
 --
 --   block-by-test     sixteen elements that pass the test are a block
---   set-bit-met, read-cnt-met, random-id-met, proof-met     the four statements
+--   set-bit-met, read-cnt-met, write-stopped-met, random-id-met, proof-met     the five statements
 --
 -- Assumes nothing.
 use mathlib.Core.Path.{_≡_, refl, sym}
@@ -14,7 +14,7 @@ use lib.Seq.{getD-set-other}
 use Rattle.fips197.specs.State.{IsBlock}
 use Rattle.model.specs.Image.{load}
 use Rattle.model.specs.FieldClaims.{oneWayBits}
-use Rattle.cases.specs.Samples.{ridImage, challengedTag, rndA, proofFrame, SetBitMet, ReadCntMet, RandomIdMet, ProofMet}
+use Rattle.cases.specs.Samples.{ridImage, challengedTag, rndA, proofFrame, SetBitMet, ReadCntMet, WriteStoppedMet, RandomIdMet, ProofMet}
 use Rattle.model.specs.CallClaims.{AgreeWhere}
 use Rattle.model.specs.CaseForm.{blank}
 use Rattle.model.proofs.Sound.{zeros-block}
@@ -24,15 +24,18 @@ use Rattle.cases.proofs.Struck.{byteTest, bytes-by-test}
 pub block-by-test : (l : List ℕ) → length l ≡ 16 → T (byteTest l) → IsBlock l
 block-by-test l e t = record { sixteen = e; bytes = bytes-by-test l t }
 
-computed : SetBitMet × ReadCntMet
+computed : SetBitMet × ReadCntMet × WriteStoppedMet
 unfolding computing oneWayBits
-computed = ((refl, refl, refl), refl)
+computed = ((refl, refl, refl), refl, (refl, refl))
 
 pub set-bit-met : SetBitMet
 set-bit-met = computed .0
 
 pub read-cnt-met : ReadCntMet
 read-cnt-met = computed .1
+
+pub write-stopped-met : WriteStoppedMet
+write-stopped-met = computed .2
 
 -- a store that differs in byte 0 agrees from byte 9 on
 from-nine : (s : List ℕ) (v i : ℕ) → 9 ≤ i → getD s i 0 ≡ getD (set s 0 v) i 0

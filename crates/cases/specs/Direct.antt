@@ -10,6 +10,7 @@ use lib.Dec.{T}
 use lib.ListN.{take, drop, replicate}
 use Rattle.model.specs.declared.Tag.{Tag}
 use Rattle.model.specs.declared.State.{State}
+use Rattle.model.specs.declared.Barred.the-variants.{Open}
 use Rattle.model.specs.declared.State.the-variants.{Waiting, Active, Authenticated, Challenged, Unknown}
 use Rattle.model.specs.Record.{zeros}
 use Rattle.model.specs.Frame.{Said, silence, nibble, bytes}
@@ -51,7 +52,7 @@ spare = replicate 16 0xa5
 
 -- number 10: silence, and the record and the store as they came
 abbrev pub ten : Tag → List ℕ → List ℕ → List ℕ → ℕ → Direct
-ten tag s f random room = framed tag s f random room (record { number = 10; said = silence; tag = tag; store = s })
+ten tag s f random room = framed tag s f random room (record { number = 10; said = silence; reason = Open; tag = tag; store = s })
 
 -- 10 comes first: with a frame that would be carried out, with one that would be 2, and in WAITING, where it would be 1
 abbrev pub tenFirst : (State → Tag) → List ℕ → List ℕ → ℕ → List Direct
@@ -104,10 +105,10 @@ fullTag challenge st = held (0x030201 ∷ 0x060504 ∷ 0xffffff ∷ []) 1023 cha
 -- With nothing wrong the three frames are 0, 2 and 1, and a longer reply buffer is as good. 1 keeps the record as it came.
 abbrev pub nothingWrong : List Direct
 nothingWrong =
-    framed (sound Active) pages read04 spare 242 (record { number = 0; said = pages04; tag = soundLeft Active; store = pages }) ∷
-    framed (sound Active) pages read04 spare 300 (record { number = 0; said = pages04; tag = soundLeft Active; store = pages }) ∷
-    framed (sound Active) pages [] spare 242 (record { number = 2; said = nibble 0x1; tag = soundLeft Waiting; store = pages }) ∷
-    framed (sound Waiting) pages read04 spare 242 (record { number = 1; said = silence; tag = sound Waiting; store = pages }) ∷ []
+    framed (sound Active) pages read04 spare 242 (record { number = 0; said = pages04; reason = Open; tag = soundLeft Active; store = pages }) ∷
+    framed (sound Active) pages read04 spare 300 (record { number = 0; said = pages04; reason = Open; tag = soundLeft Active; store = pages }) ∷
+    framed (sound Active) pages [] spare 242 (record { number = 2; said = nibble 0x1; reason = Open; tag = soundLeft Waiting; store = pages }) ∷
+    framed (sound Waiting) pages read04 spare 242 (record { number = 1; said = silence; reason = Open; tag = sound Waiting; store = pages }) ∷ []
 
 -- A store of 239 bytes: 10.
 abbrev pub storeOf239 : List Direct

@@ -12,6 +12,7 @@ use Rattle.model.specs.declared.Tag.{Tag}
 use Rattle.model.specs.declared.State.{State}
 use Rattle.model.specs.declared.State.the-variants.{Waiting, Active, Traceable, Authenticated, Challenged, Unknown}
 use Rattle.model.specs.Record.{stateNumber, fleeting}
+use Rattle.model.specs.Writing.{barredPlace}
 use Rattle.model.specs.Authentication.{sameBytes}
 use Rattle.model.specs.Frame.{Outcome, frame}
 use Rattle.model.specs.Image.{Loaded, load, Saved, save}
@@ -49,7 +50,7 @@ directRight (begun st challenge c) =
     eqb (load (c .image) blank .number) 0 && playedRight c (boxIn st challenge (loadedBox (c .image) blank)) (c .lines)
 directRight (framed tag s f random room o) =
     let r = frame tag s f random room in
-    eqb (r .number) (o .number) && sameSaid (r .said) (o .said) && sameTag (r .tag) (o .tag) && sameBytes (r .store) (o .store)
+    eqb (r .number) (o .number) && sameSaid (r .said) (o .said) && eqb (barredPlace (r .reason)) (barredPlace (o .reason)) && sameTag (r .tag) (o .tag) && sameBytes (r .store) (o .store)
 directRight (loads i s l) =
     let r = load i s in
     eqb (r .number) (l .number) && sameTag (r .tag) (l .tag) && sameBytes (r .store) (l .store)

@@ -7,7 +7,7 @@ use mathlib.Core.List.{List, [], _∷_, _++_}
 use Rattle.model.specs.declared.State.the-variants.{Waiting, Active}
 use Rattle.model.specs.Frame.{nibble, bytes}
 use Rattle.model.specs.CaseImages.{hex, page, patched, base}
-use Rattle.model.specs.CaseForm.{Case, selected, toActive, sent, ack}
+use Rattle.model.specs.CaseForm.{Case, selected, toActive, sent, stopped, ack}
 
 -- ---- from here on written by tools/cases.py
 
@@ -37,7 +37,10 @@ otpOr = record {
 abbrev pub otpLocked : Case
 otpLocked = record {
   image = patched base (page 0x02 (hex 4 0x10480800) ∷ page 0x03 (hex 4 0xff0000ff) ∷ []);
-  lines = toActive ++ (sent (hex 8 0xa203_00000000_eba2) 7 (nibble 0x0) ∷ selected ∷ sent (hex 8 0xa203_ff0000ff_4168) 7 (nibble 0x0) ∷ []);
+  lines =
+      toActive ++ (
+      stopped 3 (hex 8 0xa203_00000000_eba2) 7 (nibble 0x0) ∷
+      selected ∷ stopped 3 (hex 8 0xa203_ff0000ff_4168) 7 (nibble 0x0) ∷ []);
   changed = [];
   state = Waiting;
 }
@@ -118,7 +121,7 @@ lockBitsFreezeNothing = record {
 abbrev pub lockHolds : Case
 lockHolds = record {
   image = base;
-  lines = toActive ++ (sent (hex 8 0xa202_00001000_3e3c) 0 ack ∷ sent (hex 8 0xa204_11223344_4463) 7 (nibble 0x0) ∷ []);
+  lines = toActive ++ (sent (hex 8 0xa202_00001000_3e3c) 0 ack ∷ stopped 3 (hex 8 0xa204_11223344_4463) 7 (nibble 0x0) ∷ []);
   changed = page 0x02 (hex 4 0x10481000) ∷ [];
   state = Waiting;
 }
@@ -144,7 +147,7 @@ lock04 = record {
       toActive ++ (
       sent (hex 8 0xa203_01020304_a467) 0 ack ∷
       sent (hex 8 0xa205_11223344_0068) 0 ack ∷
-      sent (hex 8 0xa204_11223344_4463) 7 (nibble 0x0) ∷ []);
+      stopped 3 (hex 8 0xa204_11223344_4463) 7 (nibble 0x0) ∷ []);
   changed = page 0x03 (hex 4 0x01020304) ∷ page 0x05 (hex 4 0x11223344) ∷ [];
   state = Waiting;
 }
@@ -157,7 +160,7 @@ lock07 = record {
       toActive ++ (
       sent (hex 8 0xa206_01020304_f041) 0 ack ∷
       sent (hex 8 0xa208_11223344_7414) 0 ack ∷
-      sent (hex 8 0xa207_11223344_887e) 7 (nibble 0x0) ∷ []);
+      stopped 3 (hex 8 0xa207_11223344_887e) 7 (nibble 0x0) ∷ []);
   changed = page 0x06 (hex 4 0x01020304) ∷ page 0x08 (hex 4 0x11223344) ∷ [];
   state = Waiting;
 }
@@ -170,7 +173,7 @@ lock08 = record {
       toActive ++ (
       sent (hex 8 0xa207_01020304_b44a) 0 ack ∷
       sent (hex 8 0xa209_11223344_301f) 0 ack ∷
-      sent (hex 8 0xa208_11223344_7414) 7 (nibble 0x0) ∷ []);
+      stopped 3 (hex 8 0xa208_11223344_7414) 7 (nibble 0x0) ∷ []);
   changed = page 0x07 (hex 4 0x01020304) ∷ page 0x09 (hex 4 0x11223344) ∷ [];
   state = Waiting;
 }
@@ -183,7 +186,7 @@ lock0F = record {
       toActive ++ (
       sent (hex 8 0xa20e_01020304_d01b) 0 ack ∷
       sent (hex 8 0xa210_11223344_14fa) 0 ack ∷
-      sent (hex 8 0xa20f_11223344_a824) 7 (nibble 0x0) ∷ []);
+      stopped 3 (hex 8 0xa20f_11223344_a824) 7 (nibble 0x0) ∷ []);
   changed = page 0x0e (hex 4 0x01020304) ∷ page 0x10 (hex 4 0x11223344) ∷ [];
   state = Waiting;
 }
@@ -194,19 +197,19 @@ lockEach = record {
   image = patched base (page 0x02 (hex 4 0x1048f8ff) ∷ []);
   lines =
       toActive ++ (
-      sent (hex 8 0xa203_11223344_9853) 7 (nibble 0x0) ∷
-      selected ∷ sent (hex 8 0xa204_11223344_4463) 7 (nibble 0x0) ∷
-      selected ∷ sent (hex 8 0xa205_11223344_0068) 7 (nibble 0x0) ∷
-      selected ∷ sent (hex 8 0xa206_11223344_cc75) 7 (nibble 0x0) ∷
-      selected ∷ sent (hex 8 0xa207_11223344_887e) 7 (nibble 0x0) ∷
-      selected ∷ sent (hex 8 0xa208_11223344_7414) 7 (nibble 0x0) ∷
-      selected ∷ sent (hex 8 0xa209_11223344_301f) 7 (nibble 0x0) ∷
-      selected ∷ sent (hex 8 0xa20a_11223344_fc02) 7 (nibble 0x0) ∷
-      selected ∷ sent (hex 8 0xa20b_11223344_b809) 7 (nibble 0x0) ∷
-      selected ∷ sent (hex 8 0xa20c_11223344_6439) 7 (nibble 0x0) ∷
-      selected ∷ sent (hex 8 0xa20d_11223344_2032) 7 (nibble 0x0) ∷
-      selected ∷ sent (hex 8 0xa20e_11223344_ec2f) 7 (nibble 0x0) ∷
-      selected ∷ sent (hex 8 0xa20f_11223344_a824) 7 (nibble 0x0) ∷ []);
+      stopped 3 (hex 8 0xa203_11223344_9853) 7 (nibble 0x0) ∷
+      selected ∷ stopped 3 (hex 8 0xa204_11223344_4463) 7 (nibble 0x0) ∷
+      selected ∷ stopped 3 (hex 8 0xa205_11223344_0068) 7 (nibble 0x0) ∷
+      selected ∷ stopped 3 (hex 8 0xa206_11223344_cc75) 7 (nibble 0x0) ∷
+      selected ∷ stopped 3 (hex 8 0xa207_11223344_887e) 7 (nibble 0x0) ∷
+      selected ∷ stopped 3 (hex 8 0xa208_11223344_7414) 7 (nibble 0x0) ∷
+      selected ∷ stopped 3 (hex 8 0xa209_11223344_301f) 7 (nibble 0x0) ∷
+      selected ∷ stopped 3 (hex 8 0xa20a_11223344_fc02) 7 (nibble 0x0) ∷
+      selected ∷ stopped 3 (hex 8 0xa20b_11223344_b809) 7 (nibble 0x0) ∷
+      selected ∷ stopped 3 (hex 8 0xa20c_11223344_6439) 7 (nibble 0x0) ∷
+      selected ∷ stopped 3 (hex 8 0xa20d_11223344_2032) 7 (nibble 0x0) ∷
+      selected ∷ stopped 3 (hex 8 0xa20e_11223344_ec2f) 7 (nibble 0x0) ∷
+      selected ∷ stopped 3 (hex 8 0xa20f_11223344_a824) 7 (nibble 0x0) ∷ []);
   changed = [];
   state = Waiting;
 }

@@ -7,7 +7,7 @@ use mathlib.Core.List.{List, [], _∷_, _++_}
 use Rattle.model.specs.declared.State.the-variants.{Waiting, Active}
 use Rattle.model.specs.Frame.{nibble}
 use Rattle.model.specs.CaseImages.{hex, page, patched, base}
-use Rattle.model.specs.CaseForm.{Case, selected, toActive, sent, ack}
+use Rattle.model.specs.CaseForm.{Case, selected, toActive, sent, stopped, ack}
 
 -- ---- from here on written by tools/cases.py
 
@@ -132,7 +132,7 @@ pairFrozenKept = record {
 abbrev pub pairLockHolds : Case
 pairLockHolds = record {
   image = base;
-  lines = toActive ++ (sent (hex 8 0xa228_02000000_e0bc) 0 ack ∷ sent (hex 8 0xa213_11223344_d8e7) 7 (nibble 0x0) ∷ []);
+  lines = toActive ++ (sent (hex 8 0xa228_02000000_e0bc) 0 ack ∷ stopped 4 (hex 8 0xa213_11223344_d8e7) 7 (nibble 0x0) ∷ []);
   changed = page 0x28 (hex 4 0x02000000) ∷ [];
   state = Waiting;
 }
@@ -143,8 +143,8 @@ pairLock10 = record {
   image = patched base (page 0x28 (hex 4 0x01000000) ∷ []);
   lines =
       toActive ++ (
-      sent (hex 8 0xa210_11223344_14fa) 7 (nibble 0x0) ∷
-      selected ∷ sent (hex 8 0xa211_11223344_50f1) 7 (nibble 0x0) ∷
+      stopped 4 (hex 8 0xa210_11223344_14fa) 7 (nibble 0x0) ∷
+      selected ∷ stopped 4 (hex 8 0xa211_11223344_50f1) 7 (nibble 0x0) ∷
       selected ∷ sent (hex 8 0xa20f_11223344_a824) 0 ack ∷
       sent (hex 8 0xa212_55667788_b6c0) 0 ack ∷ []);
   changed = page 0x0f (hex 4 0x11223344) ∷ page 0x12 (hex 4 0x55667788) ∷ [];
@@ -157,8 +157,8 @@ pairLock1E = record {
   image = patched base (page 0x28 (hex 4 0x80000000) ∷ []);
   lines =
       toActive ++ (
-      sent (hex 8 0xa21e_11223344_ac9b) 7 (nibble 0x0) ∷
-      selected ∷ sent (hex 8 0xa21f_11223344_e890) 7 (nibble 0x0) ∷
+      stopped 4 (hex 8 0xa21e_11223344_ac9b) 7 (nibble 0x0) ∷
+      selected ∷ stopped 4 (hex 8 0xa21f_11223344_e890) 7 (nibble 0x0) ∷
       selected ∷ sent (hex 8 0xa21d_11223344_6086) 0 ack ∷
       sent (hex 8 0xa220_55667788_ef02) 0 ack ∷ []);
   changed = page 0x1d (hex 4 0x11223344) ∷ page 0x20 (hex 4 0x55667788) ∷ [];
@@ -171,8 +171,8 @@ pairLock20 = record {
   image = patched base (page 0x28 (hex 4 0x00010000) ∷ []);
   lines =
       toActive ++ (
-      sent (hex 8 0xa220_11223344_c52e) 7 (nibble 0x0) ∷
-      selected ∷ sent (hex 8 0xa221_11223344_8125) 7 (nibble 0x0) ∷
+      stopped 4 (hex 8 0xa220_11223344_c52e) 7 (nibble 0x0) ∷
+      selected ∷ stopped 4 (hex 8 0xa221_11223344_8125) 7 (nibble 0x0) ∷
       selected ∷ sent (hex 8 0xa21f_11223344_e890) 0 ack ∷
       sent (hex 8 0xa222_55667788_6714) 0 ack ∷ []);
   changed = page 0x1f (hex 4 0x11223344) ∷ page 0x22 (hex 4 0x55667788) ∷ [];
@@ -185,8 +185,8 @@ pairLock26 = record {
   image = patched base (page 0x28 (hex 4 0x00080000) ∷ []);
   lines =
       toActive ++ (
-      sent (hex 8 0xa226_11223344_5d15) 7 (nibble 0x0) ∷
-      selected ∷ sent (hex 8 0xa227_11223344_191e) 7 (nibble 0x0) ∷
+      stopped 4 (hex 8 0xa226_11223344_5d15) 7 (nibble 0x0) ∷
+      selected ∷ stopped 4 (hex 8 0xa227_11223344_191e) 7 (nibble 0x0) ∷
       selected ∷ sent (hex 8 0xa225_11223344_9108) 0 ack ∷
       sent (hex 8 0xa228_01000000_2d99) 0 ack ∷ []);
   changed = page 0x25 (hex 4 0x11223344) ∷ page 0x28 (hex 4 0x01080000) ∷ [];
@@ -199,18 +199,18 @@ pairLockEach = record {
   image = patched base (page 0x28 (hex 4 0xff0f0000) ∷ []);
   lines =
       toActive ++ (
-      sent (hex 8 0xa211_11223344_50f1) 7 (nibble 0x0) ∷
-      selected ∷ sent (hex 8 0xa213_11223344_d8e7) 7 (nibble 0x0) ∷
-      selected ∷ sent (hex 8 0xa215_11223344_40dc) 7 (nibble 0x0) ∷
-      selected ∷ sent (hex 8 0xa217_11223344_c8ca) 7 (nibble 0x0) ∷
-      selected ∷ sent (hex 8 0xa219_11223344_70ab) 7 (nibble 0x0) ∷
-      selected ∷ sent (hex 8 0xa21b_11223344_f8bd) 7 (nibble 0x0) ∷
-      selected ∷ sent (hex 8 0xa21d_11223344_6086) 7 (nibble 0x0) ∷
-      selected ∷ sent (hex 8 0xa21f_11223344_e890) 7 (nibble 0x0) ∷
-      selected ∷ sent (hex 8 0xa221_11223344_8125) 7 (nibble 0x0) ∷
-      selected ∷ sent (hex 8 0xa223_11223344_0933) 7 (nibble 0x0) ∷
-      selected ∷ sent (hex 8 0xa225_11223344_9108) 7 (nibble 0x0) ∷
-      selected ∷ sent (hex 8 0xa227_11223344_191e) 7 (nibble 0x0) ∷ []);
+      stopped 4 (hex 8 0xa211_11223344_50f1) 7 (nibble 0x0) ∷
+      selected ∷ stopped 4 (hex 8 0xa213_11223344_d8e7) 7 (nibble 0x0) ∷
+      selected ∷ stopped 4 (hex 8 0xa215_11223344_40dc) 7 (nibble 0x0) ∷
+      selected ∷ stopped 4 (hex 8 0xa217_11223344_c8ca) 7 (nibble 0x0) ∷
+      selected ∷ stopped 4 (hex 8 0xa219_11223344_70ab) 7 (nibble 0x0) ∷
+      selected ∷ stopped 4 (hex 8 0xa21b_11223344_f8bd) 7 (nibble 0x0) ∷
+      selected ∷ stopped 4 (hex 8 0xa21d_11223344_6086) 7 (nibble 0x0) ∷
+      selected ∷ stopped 4 (hex 8 0xa21f_11223344_e890) 7 (nibble 0x0) ∷
+      selected ∷ stopped 4 (hex 8 0xa221_11223344_8125) 7 (nibble 0x0) ∷
+      selected ∷ stopped 4 (hex 8 0xa223_11223344_0933) 7 (nibble 0x0) ∷
+      selected ∷ stopped 4 (hex 8 0xa225_11223344_9108) 7 (nibble 0x0) ∷
+      selected ∷ stopped 4 (hex 8 0xa227_11223344_191e) 7 (nibble 0x0) ∷ []);
   changed = [];
   state = Waiting;
 }

@@ -7,7 +7,7 @@ use mathlib.Core.List.{List, [], _∷_, _++_}
 use Rattle.model.specs.declared.State.the-variants.{Waiting, Active}
 use Rattle.model.specs.Frame.{nibble, bytes}
 use Rattle.model.specs.CaseImages.{hex, page, patched, base}
-use Rattle.model.specs.CaseForm.{Case, selected, toActive, sent, ack}
+use Rattle.model.specs.CaseForm.{Case, selected, toActive, sent, stopped, ack}
 
 -- ---- from here on written by tools/cases.py
 
@@ -345,7 +345,7 @@ auth0HighBitLow = record {
       toActive ++ (
       sent (hex 4 0x3001_8bb9) 0 (bytes (hex 18 0x5a93c71e_10480000_0f1e2d3c_04512cf1_f292)) ∷
       sent (hex 4 0x3004_26ee) 6 (nibble 0x0) ∷
-      selected ∷ sent (hex 8 0xa204_11223344_4463) 6 (nibble 0x0) ∷ []);
+      selected ∷ stopped 1 (hex 8 0xa204_11223344_4463) 6 (nibble 0x0) ∷ []);
   changed = [];
   state = Waiting;
 }

@@ -3,6 +3,7 @@
 --     SetBitMet        a loaded image with a one-way bit set                       SetBitsStay
 --     ReadCntMet       a READ_CNT that is answered 0                               ReadCntLowFirst
 --     RandomIdMet      an ACTIVE tag with Random ID on, and two stores that differ in byte 0 alone    RandomIdHides
+--     WriteStoppedMet  a WRITE that is answered 6                                  FirstRuleTold
 --     ProofMet         009 Table 17: a challenged tag and a right proof            ProofExact
 --
 -- proofs/Samples.antt proves each by computing. Assumes nothing.
@@ -15,9 +16,11 @@ use Rattle.bits.specs.Bits.{bitOf}
 use Rattle.crc.specs.CrcA.{withCrc}
 use Rattle.model.specs.declared.Tag.{Tag}
 use Rattle.model.specs.declared.State.the-variants.{Challenged}
+use Rattle.model.specs.declared.Command.the-variants.{Write}
 use Rattle.model.specs.Map.{mf0aes20}
 use Rattle.model.specs.Settings.{randomIdOn}
 use Rattle.model.specs.Record.{zeros, isActive, select}
+use Rattle.model.specs.Telling.{codeOf}
 use Rattle.model.specs.Authentication.{limitReached}
 use Rattle.model.specs.Frame.{frame}
 use Rattle.model.specs.Image.{load}
@@ -39,6 +42,18 @@ SetBitMet = (load otpImage blank .number ≡ 0) × (bitOf 0 (oneWayBits 12) ≡ 
 abbrev pub ReadCntMet : Type 0
 ReadCntMet =
     frame (select (load base blank .tag)) (load base blank .store) (withCrc (0x39 ∷ 0x00 ∷ [])) zeros 242 .number ≡ 0
+
+-- WRITE 04h to the base image with AUTH0 04h
+abbrev pub stoppedWrite : List ℕ
+stoppedWrite = withCrc (0xa2 ∷ 0x04 ∷ 0x11 ∷ 0x22 ∷ 0x33 ∷ 0x44 ∷ [])
+
+abbrev pub auth0Image : List ℕ
+auth0Image = patched base (page 0x29 (0x00 ∷ 0x00 ∷ 0x00 ∷ 0x04 ∷ []) ∷ [])
+
+abbrev pub WriteStoppedMet : Type 0
+WriteStoppedMet =
+    (getD stoppedWrite 0 0 ≡ codeOf Write)
+    × (frame (select (load auth0Image blank .tag)) (load auth0Image blank .store) stoppedWrite zeros 242 .number ≡ 6)
 
 abbrev pub RandomIdMet : Type 0
 RandomIdMet =

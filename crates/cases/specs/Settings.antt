@@ -7,7 +7,7 @@ use mathlib.Core.List.{List, [], _∷_, _++_}
 use Rattle.model.specs.declared.State.the-variants.{Waiting, Active}
 use Rattle.model.specs.Frame.{nibble, bytes}
 use Rattle.model.specs.CaseImages.{hex, page, patched, base}
-use Rattle.model.specs.CaseForm.{Case, selected, toActive, sent, ack}
+use Rattle.model.specs.CaseForm.{Case, selected, toActive, sent, stopped, ack}
 
 -- ---- from here on written by tools/cases.py
 
@@ -30,7 +30,7 @@ auth0Zero = record {
   image = patched base (page 0x29 (hex 4 0x00000000) ∷ []);
   lines =
       toActive ++ (
-      sent (hex 8 0xa202_00000100_77b0) 6 (nibble 0x0) ∷
+      stopped 1 (hex 8 0xa202_00000100_77b0) 6 (nibble 0x0) ∷
       selected ∷ sent (hex 8 0xa200_11223344_544e) 5 (nibble 0x0) ∷
       selected ∷ sent (hex 8 0xa23c_11223344_b5ed) 5 (nibble 0x0) ∷ []);
   changed = [];
@@ -41,7 +41,7 @@ auth0Zero = record {
 abbrev pub auth0WithProt : Case
 auth0WithProt = record {
   image = patched base (page 0x29 (hex 4 0x00000004) ∷ page 0x2a (hex 4 0x8c050000) ∷ []);
-  lines = toActive ++ (sent (hex 8 0xa204_11223344_4463) 6 (nibble 0x0) ∷ selected ∷ sent (hex 8 0xa203_01020304_a467) 0 ack ∷ []);
+  lines = toActive ++ (stopped 1 (hex 8 0xa204_11223344_4463) 6 (nibble 0x0) ∷ selected ∷ sent (hex 8 0xa203_01020304_a467) 0 ack ∷ []);
   changed = page 0x03 (hex 4 0x01020304) ∷ [];
   state = Active;
 }
@@ -58,13 +58,13 @@ auth0BeforeLocks = record {
       page 0x2d (hex 4 0xe0000000) ∷ []);
   lines =
       toActive ++ (
-      sent (hex 8 0xa204_00000004_13d4) 6 (nibble 0x0) ∷
-      selected ∷ sent (hex 8 0xa210_00000004_434d) 6 (nibble 0x0) ∷
-      selected ∷ sent (hex 8 0xa229_00000004_f6c8) 6 (nibble 0x0) ∷
-      selected ∷ sent (hex 8 0xa22a_00000004_3ad5) 6 (nibble 0x0) ∷
-      selected ∷ sent (hex 8 0xa22d_00000004_e6e5) 6 (nibble 0x0) ∷
-      selected ∷ sent (hex 8 0xa230_00000004_d22d) 6 (nibble 0x0) ∷
-      selected ∷ sent (hex 8 0xa234_00000004_c200) 6 (nibble 0x0) ∷ []);
+      stopped 1 (hex 8 0xa204_00000004_13d4) 6 (nibble 0x0) ∷
+      selected ∷ stopped 1 (hex 8 0xa210_00000004_434d) 6 (nibble 0x0) ∷
+      selected ∷ stopped 1 (hex 8 0xa229_00000004_f6c8) 6 (nibble 0x0) ∷
+      selected ∷ stopped 1 (hex 8 0xa22a_00000004_3ad5) 6 (nibble 0x0) ∷
+      selected ∷ stopped 1 (hex 8 0xa22d_00000004_e6e5) 6 (nibble 0x0) ∷
+      selected ∷ stopped 1 (hex 8 0xa230_00000004_d22d) 6 (nibble 0x0) ∷
+      selected ∷ stopped 1 (hex 8 0xa234_00000004_c200) 6 (nibble 0x0) ∷ []);
   changed = [];
   state = Waiting;
 }
@@ -73,7 +73,7 @@ auth0BeforeLocks = record {
 abbrev pub auth0LastWrite : Case
 auth0LastWrite = record {
   image = patched base (page 0x29 (hex 4 0x0000003b) ∷ []);
-  lines = toActive ++ (sent (hex 8 0xa23b_11223344_69dd) 6 (nibble 0x0) ∷ selected ∷ sent (hex 8 0xa23a_11223344_2dd6) 0 ack ∷ []);
+  lines = toActive ++ (stopped 1 (hex 8 0xa23b_11223344_69dd) 6 (nibble 0x0) ∷ selected ∷ sent (hex 8 0xa23a_11223344_2dd6) 0 ack ∷ []);
   changed = page 0x3a (hex 4 0x11223344) ∷ [];
   state = Active;
 }
@@ -93,8 +93,8 @@ auth0Keys = record {
   image = patched base (page 0x29 (hex 4 0x00000030) ∷ []);
   lines =
       toActive ++ (
-      sent (hex 8 0xa230_11223344_859a) 6 (nibble 0x0) ∷
-      selected ∷ sent (hex 8 0xa237_11223344_59aa) 6 (nibble 0x0) ∷
+      stopped 1 (hex 8 0xa230_11223344_859a) 6 (nibble 0x0) ∷
+      selected ∷ stopped 1 (hex 8 0xa237_11223344_59aa) 6 (nibble 0x0) ∷
       selected ∷ sent (hex 8 0xa22f_11223344_3944) 0 ack ∷ []);
   changed = page 0x2f (hex 4 0x11223344) ∷ [];
   state = Active;
@@ -104,7 +104,7 @@ auth0Keys = record {
 abbrev pub auth0Holds : Case
 auth0Holds = record {
   image = base;
-  lines = toActive ++ (sent (hex 8 0xa229_00000004_f6c8) 0 ack ∷ sent (hex 8 0xa204_11223344_4463) 6 (nibble 0x0) ∷ []);
+  lines = toActive ++ (sent (hex 8 0xa229_00000004_f6c8) 0 ack ∷ stopped 1 (hex 8 0xa204_11223344_4463) 6 (nibble 0x0) ∷ []);
   changed = page 0x29 (hex 4 0x00000004) ∷ [];
   state = Waiting;
 }
@@ -168,8 +168,8 @@ dataProtKeyLocked = record {
   image = patched base (page 0x2d (hex 4 0x40000000) ∷ []);
   lines =
       toActive ++ (
-      sent (hex 8 0xa230_11223344_859a) 7 (nibble 0x0) ∷
-      selected ∷ sent (hex 8 0xa233_11223344_4987) 7 (nibble 0x0) ∷
+      stopped 5 (hex 8 0xa230_11223344_859a) 7 (nibble 0x0) ∷
+      selected ∷ stopped 5 (hex 8 0xa233_11223344_4987) 7 (nibble 0x0) ∷
       selected ∷ sent (hex 8 0xa22f_11223344_3944) 0 ack ∷
       sent (hex 8 0xa234_55667788_bf9b) 0 ack ∷ []);
   changed = page 0x2f (hex 4 0x11223344) ∷ page 0x34 (hex 4 0x55667788) ∷ [];
@@ -182,8 +182,8 @@ uidRetrKeyLocked = record {
   image = patched base (page 0x2d (hex 4 0x80000000) ∷ []);
   lines =
       toActive ++ (
-      sent (hex 8 0xa234_11223344_95b7) 7 (nibble 0x0) ∷
-      selected ∷ sent (hex 8 0xa237_11223344_59aa) 7 (nibble 0x0) ∷
+      stopped 5 (hex 8 0xa234_11223344_95b7) 7 (nibble 0x0) ∷
+      selected ∷ stopped 5 (hex 8 0xa237_11223344_59aa) 7 (nibble 0x0) ∷
       selected ∷ sent (hex 8 0xa233_11223344_4987) 0 ack ∷
       sent (hex 8 0xa238_55667788_8fec) 0 ack ∷ []);
   changed = page 0x33 (hex 4 0x11223344) ∷ page 0x38 (hex 4 0x55667788) ∷ [];
@@ -196,9 +196,9 @@ keyLocksBlocked = record {
   image = patched base (page 0x2d (hex 4 0x20000000) ∷ []);
   lines =
       toActive ++ (
-      sent (hex 8 0xa22d_20000000_912c) 7 (nibble 0x0) ∷
-      selected ∷ sent (hex 8 0xa22d_e0000000_4817) 7 (nibble 0x0) ∷
-      selected ∷ sent (hex 8 0xa22d_00000000_c2a3) 7 (nibble 0x0) ∷
+      stopped 5 (hex 8 0xa22d_20000000_912c) 7 (nibble 0x0) ∷
+      selected ∷ stopped 5 (hex 8 0xa22d_e0000000_4817) 7 (nibble 0x0) ∷
+      selected ∷ stopped 5 (hex 8 0xa22d_00000000_c2a3) 7 (nibble 0x0) ∷
       selected ∷ sent (hex 8 0xa230_11223344_859a) 0 ack ∷
       sent (hex 8 0xa234_55667788_bf9b) 0 ack ∷ []);
   changed = page 0x30 (hex 4 0x11223344) ∷ page 0x34 (hex 4 0x55667788) ∷ [];
@@ -225,9 +225,9 @@ keyLocksTogether = record {
   lines =
       toActive ++ (
       sent (hex 8 0xa22d_e0123456_14c1) 0 ack ∷
-      sent (hex 8 0xa230_11223344_859a) 7 (nibble 0x0) ∷
-      selected ∷ sent (hex 8 0xa234_11223344_95b7) 7 (nibble 0x0) ∷
-      selected ∷ sent (hex 8 0xa22d_e0123456_14c1) 7 (nibble 0x0) ∷ []);
+      stopped 5 (hex 8 0xa230_11223344_859a) 7 (nibble 0x0) ∷
+      selected ∷ stopped 5 (hex 8 0xa234_11223344_95b7) 7 (nibble 0x0) ∷
+      selected ∷ stopped 5 (hex 8 0xa22d_e0123456_14c1) 7 (nibble 0x0) ∷ []);
   changed = page 0x2d (hex 4 0xe0123456) ∷ [];
   state = Waiting;
 }
@@ -253,9 +253,9 @@ configLocked = record {
   image = patched base (page 0x2a (hex 4 0x4c050000) ∷ []);
   lines =
       toActive ++ (
-      sent (hex 8 0xa229_0000003c_3d75) 7 (nibble 0x0) ∷
-      selected ∷ sent (hex 8 0xa22a_4c050000_202b) 7 (nibble 0x0) ∷
-      selected ∷ sent (hex 8 0xa22a_0c050000_973d) 7 (nibble 0x0) ∷
+      stopped 6 (hex 8 0xa229_0000003c_3d75) 7 (nibble 0x0) ∷
+      selected ∷ stopped 6 (hex 8 0xa22a_4c050000_202b) 7 (nibble 0x0) ∷
+      selected ∷ stopped 6 (hex 8 0xa22a_0c050000_973d) 7 (nibble 0x0) ∷
       selected ∷ sent (hex 8 0xa228_01000000_2d99) 0 ack ∷
       sent (hex 8 0xa22b_11223344_2969) 0 ack ∷
       sent (hex 8 0xa22d_80000000_ac8e) 0 ack ∷ []);
@@ -267,7 +267,7 @@ configLocked = record {
 abbrev pub configLockSet : Case
 configLockSet = record {
   image = base;
-  lines = toActive ++ (sent (hex 8 0xa22a_4c7788fe_bd42) 0 ack ∷ sent (hex 8 0xa22a_0c050000_973d) 7 (nibble 0x0) ∷ []);
+  lines = toActive ++ (sent (hex 8 0xa22a_4c7788fe_bd42) 0 ack ∷ stopped 6 (hex 8 0xa22a_0c050000_973d) 7 (nibble 0x0) ∷ []);
   changed = page 0x2a (hex 4 0x4c7788fe) ∷ [];
   state = Waiting;
 }
@@ -285,7 +285,7 @@ otherBitsNoConfigLock = record {
 abbrev pub randomIdSwitchedOn : Case
 randomIdSwitchedOn = record {
   image = base;
-  lines = toActive ++ (sent (hex 8 0xa229_0100003c_8669) 6 (nibble 0x0) ∷ []);
+  lines = toActive ++ (stopped 2 (hex 8 0xa229_0100003c_8669) 6 (nibble 0x0) ∷ []);
   changed = [];
   state = Waiting;
 }
@@ -294,7 +294,7 @@ randomIdSwitchedOn = record {
 abbrev pub randomIdSwitchedOff : Case
 randomIdSwitchedOff = record {
   image = patched base (page 0x29 (hex 4 0x0100003c) ∷ []);
-  lines = toActive ++ (sent (hex 8 0xa229_0000003c_3d75) 6 (nibble 0x0) ∷ []);
+  lines = toActive ++ (stopped 2 (hex 8 0xa229_0000003c_3d75) 6 (nibble 0x0) ∷ []);
   changed = [];
   state = Waiting;
 }
@@ -321,7 +321,7 @@ randomIdKeptOff = record {
 abbrev pub otherBitsSwitchNothing : Case
 otherBitsSwitchNothing = record {
   image = patched base (page 0x29 (hex 4 0xfe00003c) ∷ []);
-  lines = toActive ++ (sent (hex 8 0xa229_0000003c_3d75) 0 ack ∷ sent (hex 8 0xa229_0100003c_8669) 6 (nibble 0x0) ∷ []);
+  lines = toActive ++ (sent (hex 8 0xa229_0000003c_3d75) 0 ack ∷ stopped 2 (hex 8 0xa229_0100003c_8669) 6 (nibble 0x0) ∷ []);
   changed = page 0x29 (hex 4 0x0000003c) ∷ [];
   state = Waiting;
 }
@@ -330,7 +330,72 @@ otherBitsSwitchNothing = record {
 abbrev pub randomIdLocked : Case
 randomIdLocked = record {
   image = patched base (page 0x2a (hex 4 0x4c050000) ∷ []);
-  lines = toActive ++ (sent (hex 8 0xa229_0100003c_8669) 6 (nibble 0x0) ∷ selected ∷ sent (hex 8 0xa229_0000003c_3d75) 7 (nibble 0x0) ∷ []);
+  lines =
+      toActive ++ (
+      stopped 2 (hex 8 0xa229_0100003c_8669) 6 (nibble 0x0) ∷
+      selected ∷ stopped 6 (hex 8 0xa229_0000003c_3d75) 7 (nibble 0x0) ∷ []);
+  changed = [];
+  state = Waiting;
+}
+
+-- AUTH0 29h, ACTIVE: a CFG_0 write that changes the Random ID bit is stopped by AUTH0.
+abbrev pub auth0BeforeRandomId : Case
+auth0BeforeRandomId = record {
+  image = patched base (page 0x29 (hex 4 0x00000029) ∷ []);
+  lines = toActive ++ (stopped 1 (hex 8 0xa229_01000029_aa2e) 6 (nibble 0x0) ∷ []);
+  changed = [];
+  state = Waiting;
+}
+
+-- AUTH0 29h and LOCK_USR_CFG set, ACTIVE: AUTH0 is the first of the three rules that stop a CFG_0 write with another Random ID bit.
+abbrev pub auth0BeforeBoth : Case
+auth0BeforeBoth = record {
+  image = patched base (page 0x29 (hex 4 0x00000029) ∷ page 0x2a (hex 4 0x4c050000) ∷ []);
+  lines = toActive ++ (stopped 1 (hex 8 0xa229_01000029_aa2e) 6 (nibble 0x0) ∷ []);
+  changed = [];
+  state = Waiting;
+}
+
+-- Every lock set: WRITE 03h and 0Fh are stopped by their own lock bit, 10h and 27h by their pair's, 2Dh, 30h and 37h by a key lock, 29h and
+-- 2Ah by the configuration lock.
+abbrev pub lockReasons : Case
+lockReasons = record {
+  image =
+      patched base (
+      page 0x02 (hex 4 0x1048f8ff) ∷
+      page 0x28 (hex 4 0xff0f0000) ∷
+      page 0x2a (hex 4 0x4c050000) ∷
+      page 0x2d (hex 4 0xe0000000) ∷ []);
+  lines =
+      toActive ++ (
+      stopped 3 (hex 8 0xa203_11223344_9853) 7 (nibble 0x0) ∷
+      selected ∷ stopped 3 (hex 8 0xa20f_11223344_a824) 7 (nibble 0x0) ∷
+      selected ∷ stopped 4 (hex 8 0xa210_11223344_14fa) 7 (nibble 0x0) ∷
+      selected ∷ stopped 4 (hex 8 0xa227_11223344_191e) 7 (nibble 0x0) ∷
+      selected ∷ stopped 5 (hex 8 0xa22d_00000000_c2a3) 7 (nibble 0x0) ∷
+      selected ∷ stopped 5 (hex 8 0xa230_11223344_859a) 7 (nibble 0x0) ∷
+      selected ∷ stopped 5 (hex 8 0xa237_11223344_59aa) 7 (nibble 0x0) ∷
+      selected ∷ stopped 6 (hex 8 0xa229_0000003c_3d75) 7 (nibble 0x0) ∷
+      selected ∷ stopped 6 (hex 8 0xa22a_0c050000_973d) 7 (nibble 0x0) ∷ []);
+  changed = [];
+  state = Waiting;
+}
+
+-- AUTH0 02h with PROT, LOCK_USR_CFG set, counter 2 closed: READ, FAST_READ, READ_CNT and INCR_CNT are 6, WRITE 01h and 3Ch are 5, and a
+-- WRITE with a byte too few is 4, all without a reason; WRITE 04h is stopped by AUTH0.
+abbrev pub noReason : Case
+noReason = record {
+  image = patched base (page 0x29 (hex 4 0x00000002) ∷ page 0x2a (hex 4 0xc0050000) ∷ page 0x02 (hex 4 0x1048f8ff) ∷ []);
+  lines =
+      toActive ++ (
+      sent (hex 4 0x3004_26ee) 6 (nibble 0x0) ∷
+      selected ∷ sent (hex 5 0x3a0404_8471) 6 (nibble 0x0) ∷
+      selected ∷ sent (hex 4 0x3902_085c) 6 (nibble 0x0) ∷
+      selected ∷ sent (hex 8 0xa502_01000000_c5a9) 6 (nibble 0x0) ∷
+      selected ∷ sent (hex 8 0xa201_11223344_1045) 5 (nibble 0x0) ∷
+      selected ∷ sent (hex 8 0xa23c_11223344_b5ed) 5 (nibble 0x0) ∷
+      selected ∷ sent (hex 7 0xa204_112233_2442) 4 (nibble 0x0) ∷
+      selected ∷ stopped 1 (hex 8 0xa204_11223344_4463) 6 (nibble 0x0) ∷ []);
   changed = [];
   state = Waiting;
 }
@@ -340,4 +405,5 @@ settingCases =
     writePastEnd ∷ auth0Zero ∷ auth0WithProt ∷ auth0BeforeLocks ∷ auth0LastWrite ∷ auth0Above ∷ auth0Keys ∷ auth0Holds ∷ configAsSent ∷
     configCleared ∷ plainCleared ∷ reservedPages ∷ dataProtKeyLocked ∷ uidRetrKeyLocked ∷ keyLocksBlocked ∷ otherBitsLockNoKey ∷
     keyLocksTogether ∷ keyLocksStay ∷ configLocked ∷ configLockSet ∷ otherBitsNoConfigLock ∷ randomIdSwitchedOn ∷ randomIdSwitchedOff ∷
-    randomIdKept ∷ randomIdKeptOff ∷ otherBitsSwitchNothing ∷ randomIdLocked ∷ []
+    randomIdKept ∷ randomIdKeptOff ∷ otherBitsSwitchNothing ∷ randomIdLocked ∷ auth0BeforeRandomId ∷ auth0BeforeBoth ∷ lockReasons ∷
+    noReason ∷ []

@@ -8,7 +8,7 @@ use Rattle.model.specs.declared.State.the-variants.{Waiting, Active, Traceable,
 use Rattle.model.specs.Record.{zeros}
 use Rattle.model.specs.Frame.{silence, nibble, bytes}
 use Rattle.model.specs.CaseImages.{hex, page, counter, failed, patched, base}
-use Rattle.model.specs.CaseForm.{powered, selected, sent, ack}
+use Rattle.model.specs.CaseForm.{powered, selected, sent, stopped, ack}
 use Rattle.cases.specs.DirectForm.{Direct, begun}
 
 -- ---- from here on written by tools/cases.py
@@ -147,6 +147,18 @@ challengeDroppedRefused = begun Active (hex 16 0x1ae4174ca173ebbc59165cebe2f2082
   state = Waiting;
 }
 
+-- A reason belongs to one answer: WRITE 04h is stopped by its lock bit, is 1 without a reason in WAITING, and is stopped again.
+abbrev pub reasonOnce : Direct
+reasonOnce = begun Active zeros record {
+  image = patched base (page 0x02 (hex 4 0x10481000) ∷ []);
+  lines =
+      stopped 3 (hex 8 0xa204_11223344_4463) 7 (nibble 0x0) ∷
+      sent (hex 8 0xa204_11223344_4463) 1 silence ∷
+      selected ∷ stopped 3 (hex 8 0xa204_11223344_4463) 7 (nibble 0x0) ∷ [];
+  changed = [];
+  state = Waiting;
+}
+
 -- TRACEABLE: AFh is 3.
 abbrev pub traceableProof : Direct
 traceableProof = begun Traceable zeros record {
@@ -213,7 +225,16 @@ authenticatedWraps = begun Authenticated zeros record {
 abbrev pub authenticatedLocked : Direct
 authenticatedLocked = begun Authenticated zeros record {
   image = patched base (page 0x02 (hex 4 0x10481000) ∷ []);
-  lines = sent (hex 8 0xa204_11223344_4463) 7 (nibble 0x0) ∷ [];
+  lines = stopped 3 (hex 8 0xa204_11223344_4463) 7 (nibble 0x0) ∷ [];
+  changed = [];
+  state = Waiting;
+}
+
+-- AUTHENTICATED, AUTH0 04h: a locked page is stopped by its own lock bit.
+abbrev pub authenticatedLockReason : Direct
+authenticatedLockReason = begun Authenticated zeros record {
+  image = patched base (page 0x29 (hex 4 0x00000004) ∷ page 0x02 (hex 4 0x10481000) ∷ []);
+  lines = stopped 3 (hex 8 0xa204_11223344_4463) 7 (nibble 0x0) ∷ [];
   changed = [];
   state = Waiting;
 }
@@ -233,7 +254,7 @@ authenticatedRandomId = begun Authenticated zeros record {
 abbrev pub authenticatedConfigLocked : Direct
 authenticatedConfigLocked = begun Authenticated zeros record {
   image = patched base (page 0x2a (hex 4 0x4c050000) ∷ []);
-  lines = sent (hex 8 0xa229_0100003c_8669) 7 (nibble 0x0) ∷ [];
+  lines = stopped 6 (hex 8 0xa229_0100003c_8669) 7 (nibble 0x0) ∷ [];
   changed = [];
   state = Waiting;
 }
@@ -260,7 +281,7 @@ traceableWraps = begun Traceable zeros record {
 abbrev pub traceableWrite : Direct
 traceableWrite = begun Traceable zeros record {
   image = patched base (page 0x29 (hex 4 0x00000004) ∷ []);
-  lines = sent (hex 8 0xa204_11223344_4463) 6 (nibble 0x0) ∷ [];
+  lines = stopped 1 (hex 8 0xa204_11223344_4463) 6 (nibble 0x0) ∷ [];
   changed = [];
   state = Waiting;
 }
@@ -307,7 +328,7 @@ traceableRandomId = begun Traceable zeros record {
 abbrev pub traceableRandomIdAuth0 : Direct
 traceableRandomIdAuth0 = begun Traceable zeros record {
   image = patched base (page 0x29 (hex 4 0x00000029) ∷ []);
-  lines = sent (hex 8 0xa229_01000029_aa2e) 6 (nibble 0x0) ∷ [];
+  lines = stopped 1 (hex 8 0xa229_01000029_aa2e) 6 (nibble 0x0) ∷ [];
   changed = [];
   state = Waiting;
 }
@@ -316,7 +337,7 @@ traceableRandomIdAuth0 = begun Traceable zeros record {
 abbrev pub traceableConfigLocked : Direct
 traceableConfigLocked = begun Traceable zeros record {
   image = patched base (page 0x2a (hex 4 0x4c050000) ∷ []);
-  lines = sent (hex 8 0xa229_0100003c_8669) 7 (nibble 0x0) ∷ [];
+  lines = stopped 6 (hex 8 0xa229_0100003c_8669) 7 (nibble 0x0) ∷ [];
   changed = [];
   state = Waiting;
 }
@@ -324,7 +345,7 @@ traceableConfigLocked = begun Traceable zeros record {
 unfoldable pub stateRows : List Direct
 stateRows =
     challengedHalt ∷ challengedPart1 ∷ challengedUnknown ∷ challengedOtherLength ∷ longProof ∷ proofAlone ∷ limitAtPart2 ∷ limitFalseProof ∷
-    powerDrops ∷ selectDrops ∷ powerUnknown ∷ selectUnknown ∷ challengeDropped ∷ challengeDroppedRefused ∷ traceableProof ∷
+    powerDrops ∷ selectDrops ∷ powerUnknown ∷ selectUnknown ∷ challengeDropped ∷ challengeDroppedRefused ∷ reasonOnce ∷ traceableProof ∷
     authenticatedProof ∷ traceableHalt ∷ authenticatedHalt ∷ authenticatedOpens ∷ authenticatedWraps ∷ authenticatedLocked ∷
-    authenticatedRandomId ∷ authenticatedConfigLocked ∷ traceableRead ∷ traceableWraps ∷ traceableWrite ∷ traceableReadCnt ∷
-    traceableIncrCnt ∷ traceableCounter2 ∷ traceableRandomId ∷ traceableRandomIdAuth0 ∷ traceableConfigLocked ∷ []
+    authenticatedLockReason ∷ authenticatedRandomId ∷ authenticatedConfigLocked ∷ traceableRead ∷ traceableWraps ∷ traceableWrite ∷
+    traceableReadCnt ∷ traceableIncrCnt ∷ traceableCounter2 ∷ traceableRandomId ∷ traceableRandomIdAuth0 ∷ traceableConfigLocked ∷ []

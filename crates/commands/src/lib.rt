@@ -1,6 +1,7 @@
 // The commands: each judges its own numbers, and says what it comes to where none applies. Every function has the same signature, so that the
 // dispatch is one line an arm.
 use judge::reading;
+use model::Barred;
 use model::Decision;
 use model::Effect;
 use model::Map;
@@ -33,7 +34,7 @@ pub fn read(map: Map, tag: Tag, s: &[u8], f: &[u8], random: &[u8]) -> Decision
     if n == 0 {
         return decisions::answered(tag, Say::Window(p));
     }
-    decisions::refused(n, Effect::Keep)
+    decisions::refused(n, Barred::Open, Effect::Keep)
 }
 
 // FAST_READ, 009 10.3.
@@ -47,22 +48,23 @@ pub fn fast_read(map: Map, tag: Tag, s: &[u8], f: &[u8], random: &[u8]) -> Decis
     if n == 0 {
         return decisions::answered(tag, Say::Range(p, q));
     }
-    decisions::refused(n, Effect::Keep)
+    decisions::refused(n, Barred::Open, Effect::Keep)
 }
 
-// WRITE, 009 10.4.
+// WRITE, 009 10.4. The rule that stops it gives the number, and is passed up.
 pub fn write(map: Map, tag: Tag, s: &[u8], f: &[u8], random: &[u8]) -> Decision
     ensures { λ r. ⌜ r ≡ commanded Write map tag (now (s .entry)) (now (f .entry)) (now (random .entry)) ⌝ }
 {
     let p = octets::at(f, 1);
     let q = data_of(f);
     let st = tag.state;
-    let n = locks::write_number(map, st, s, p, q);
+    let why = locks::barred(map, st, s, p, q);
+    let n = locks::write_number(map, p, why);
     if n == 0 {
         let w = pagewrite::written(map, s, p, q);
         return decisions::acknowledged(tag, Effect::Page(p, w));
     }
-    decisions::refused(n, Effect::Keep)
+    decisions::refused(n, why, Effect::Keep)
 }
 
 // READ_CNT, 009 10.5.
@@ -75,7 +77,7 @@ pub fn read_cnt(map: Map, tag: Tag, s: &[u8], f: &[u8], random: &[u8]) -> Decisi
     if n == 0 {
         return decisions::answered(tag, Say::Count(k));
     }
-    decisions::refused(n, Effect::Keep)
+    decisions::refused(n, Barred::Open, Effect::Keep)
 }
 
 // INCR_CNT, 009 10.6.
@@ -90,7 +92,7 @@ pub fn incr_cnt(map: Map, tag: Tag, s: &[u8], f: &[u8], random: &[u8]) -> Decisi
         let more = counters::increment(q);
         return decisions::acknowledged(tag, Effect::Counter(k, v + more));
     }
-    decisions::refused(n, Effect::Keep)
+    decisions::refused(n, Barred::Open, Effect::Keep)
 }
 
 // HLTA, 009 Table 20.
@@ -100,5 +102,5 @@ pub fn halt(map: Map, tag: Tag, s: &[u8], f: &[u8], random: &[u8]) -> Decision
     if octets::at(f, 1) == 0 {
         return decisions::halted();
     }
-    decisions::refused(5, Effect::Keep)
+    decisions::refused(5, Barred::Open, Effect::Keep)
 }

@@ -1,5 +1,6 @@
 // What a frame comes to: the checks in document 01's order, then the command. It only reads.
 use memory::record;
+use model::Barred;
 use model::Command;
 use model::Decision;
 use model::Effect;
@@ -44,7 +45,7 @@ fn told(map: Map, tag: Tag, s: &[u8], f: &[u8], random: &[u8], room: usize) -> D
     let st = tag.state;
     let n = telling::told_number(t, st, f.len());
     if n != 0 {
-        return decisions::refused(n, Effect::Keep);
+        return decisions::refused(n, Barred::Open, Effect::Keep);
     }
     match t {
         Told::Known(c, _) => command(c, map, tag, s, f, random),
@@ -64,7 +65,7 @@ pub fn decide(map: Map, tag: Tag, s: &[u8], f: &[u8], random: &[u8], room: usize
         return decisions::kept(1, tag);
     }
     if telling::damaged(f) {
-        return decisions::refused(2, Effect::Keep);
+        return decisions::refused(2, Barred::Open, Effect::Keep);
     }
     told(map, tag, s, f, random, room)
 }

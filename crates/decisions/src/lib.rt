@@ -1,4 +1,5 @@
 // The decisions that a frame can come to, but for the two steps of an authentication, which say a block.
+use model::Barred;
 use model::Decision;
 use model::Effect;
 use model::Say;
@@ -12,13 +13,14 @@ ghost use Rattle.decisions.specs.Deciding.{plain};
 const ACK: u8 = 0xa;
 
 // A decision that says no block and leaves no challenge.
-fn plain(number: u8, effect: Effect, say: Say, state: State) -> Decision
-    ensures { λ r. ⌜ r ≡ plain number effect say state ⌝ }
+fn plain(number: u8, reason: Barred, effect: Effect, say: Say, state: State) -> Decision
+    ensures { λ r. ⌜ r ≡ plain number reason effect say state ⌝ }
 {
     let block = [0u8; 16];
     let challenge = [0u8; 16];
     Decision {
         number,
+        reason,
         effect,
         say,
         block,
@@ -36,6 +38,7 @@ pub fn kept(n: u8, tag: Tag) -> Decision
     let block = [0u8; 16];
     Decision {
         number: n,
+        reason: Barred::Open,
         effect: Effect::Keep,
         say: Say::Silence,
         block,
@@ -44,12 +47,12 @@ pub fn kept(n: u8, tag: Tag) -> Decision
     }
 }
 
-// Every other number but 0: a NAK, and the session ends.
-pub fn refused(n: u8, e: Effect) -> Decision
-    ensures { λ r. ⌜ r ≡ refused n e ⌝ }
+// Every other number but 0: a NAK, the rule that stopped a write, and the session ends.
+pub fn refused(n: u8, b: Barred, e: Effect) -> Decision
+    ensures { λ r. ⌜ r ≡ refused n b e ⌝ }
 {
     let nibble = numbers::nibble_of(n);
-    plain(n, e, Say::Nibble(nibble), State::Waiting)
+    plain(n, b, e, Say::Nibble(nibble), State::Waiting)
 }
 
 // Number 0 with data: the state stays, and a challenge is dropped.
@@ -57,7 +60,7 @@ pub fn answered(tag: Tag, y: Say) -> Decision
     ensures { λ r. ⌜ r ≡ answered tag y ⌝ }
 {
     let state = tag.state;
-    plain(0, Effect::Keep, y, state)
+    plain(0, Barred::Open, Effect::Keep, y, state)
 }
 
 // Number 0 with ACK and what it stores.
@@ -65,12 +68,12 @@ pub fn acknowledged(tag: Tag, e: Effect) -> Decision
     ensures { λ r. ⌜ r ≡ acknowledged tag e ⌝ }
 {
     let state = tag.state;
-    plain(0, e, Say::Nibble(ACK), state)
+    plain(0, Barred::Open, e, Say::Nibble(ACK), state)
 }
 
 // HLTA carried out: silence, and the session ends.
 pub fn halted() -> Decision
     ensures { λ r. ⌜ r ≡ halted ⌝ }
 {
-    plain(0, Effect::Keep, Say::Silence, State::Waiting)
+    plain(0, Barred::Open, Effect::Keep, Say::Silence, State::Waiting)
 }

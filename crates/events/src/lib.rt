@@ -1,21 +1,24 @@
 // What a call hands back, and what an event does.
+use model::Barred;
 use model::Reply;
 use model::State;
 use model::Tag;
 ghost use mathlib.Core.Path.{_≡_};
+ghost use Rattle.model.specs.declared.Barred.the-variants.{Open};
 ghost use Rattle.model.specs.declared.Reply.the-variants.{Silence};
 ghost use Rattle.model.specs.Record.{zeros, fleeting};
 
-// What a call hands back: its number, its reply, and the record that the next call is given.
+// What a call hands back: its number, its reply, the rule that stopped a write, and the record that the next call is given.
 pub struct Answer {
     pub number: u8,
     pub reply: Reply,
+    pub reason: Barred,
     pub tag: Tag,
 }
 
 // What an event hands back: 0 with silence, and the record in another state with no challenge.
 pub fn event(tag: Tag, st: State) -> Answer
-    ensures { λ r. ⌜ r ≡ record { number = 0; reply = Silence; tag = fleeting st zeros tag } ⌝ }
+    ensures { λ r. ⌜ r ≡ record { number = 0; reply = Silence; reason = Open; tag = fleeting st zeros tag } ⌝ }
 {
     let counters = tag.counters;
     let originality = tag.originality;
@@ -29,6 +32,7 @@ pub fn event(tag: Tag, st: State) -> Answer
     Answer {
         number: 0,
         reply: Reply::Silence,
+        reason: Barred::Open,
         tag: next,
     }
 }

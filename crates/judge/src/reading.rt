@@ -9,13 +9,13 @@ use model::State;
 use numbers::first;
 use numbers::number_if;
 
-// The page is protected, or one before it.
-pub fn read_barred(map: Map, st: State, s: &[u8], last: u8) -> bool
-    ensures { λ r. ⌜ r ≡ readBarred map st (now (s .entry)) last ⌝ }
+// Page p is protected from reading.
+pub fn read_barred(map: Map, st: State, s: &[u8], p: u8) -> bool
+    ensures { λ r. ⌜ r ≡ readBarred map st (now (s .entry)) p ⌝ }
 {
     settings::read_protected(map, s)
         & !record::is_authenticated(st)
-        & (settings::auth0(map, s) <= last)
+        & (settings::auth0(map, s) <= p)
 }
 
 // READ: of its four pages only the first is judged, since behind the last that may be read it continues at page 00h.

@@ -1,8 +1,8 @@
 // Document 01, "Writing": the rules that stop a WRITE, 009 10.4, 8.5.2 to 8.5.4 and Tables 9, 10, 14 and 15.
 ghost use mathlib.Core.Path.{_≡_};
 ghost use mathlib.Core.Bool.{cond};
-ghost use Rattle.model.specs.Writing.{auth0Bars, randomIdBars, ownLockBars, pairLockBars, ofKey, keyLockBars, configLockBars};
-ghost use Rattle.model.specs.Writing.{barred, barredNumber, writeNumber};
+ghost use Rattle.model.specs.Writing.{pageBars, auth0Bars, randomIdBars, ownLockBars, pairLockBars, ofKey, keyLockBars, configLockBars};
+ghost use Rattle.model.specs.Writing.{barred, writeNumber};
 use memory::record;
 use memory::settings;
 use memory::settings::bit_set;
@@ -12,8 +12,18 @@ use model::Barred;
 use model::Map;
 use model::Quad;
 use model::State;
+use numbers::barred_number;
+use numbers::first;
+use numbers::number_if;
 use octets::byte_of;
 use octets::low_first;
+
+// Pages 02h to 3Bh can be written.
+pub fn page_bars(map: Map, p: u8) -> bool
+    ensures { λ r. ⌜ r ≡ pageBars map p ⌝ }
+{
+    (p < map.locks) | (sizes::last_page(map) < p)
+}
 
 // At or above AUTH0 and not AUTHENTICATED, whatever PROT says.
 pub fn auth0_bars(map: Map, st: State, s: &[u8], p: u8) -> bool
@@ -75,7 +85,8 @@ fn rule_if(t: bool, rule: Barred, rest: Barred) -> Barred
     if t { rule } else { rest }
 }
 
-// The rule that stops a write of q to page p: the first that applies, so the last is judged first.
+// The rule that stops a write of q to page p: the first that applies, so the last is judged first. Its number and its place follow from it (`numbers`); a
+// page that can't be written is 5 before any rule applies.
 pub fn barred(map: Map, st: State, s: &[u8], p: u8, q: Quad) -> Barred
     ensures { λ r. ⌜ r ≡ barred map st (now (s .entry)) p q ⌝ }
 {
@@ -88,30 +99,13 @@ pub fn barred(map: Map, st: State, s: &[u8], p: u8, q: Quad) -> Barred
     let pair = rule_if(pair_lock_bars(map, s, p), Barred::PairLock, key);
     let own = rule_if(own_lock_bars(map, s, p), Barred::OwnLock, pair);
     let random_id = rule_if(random_id_bars(map, st, s, p, q), Barred::RandomId, own);
-    rule_if(auth0_bars(map, st, s, p), Barred::Auth0, random_id)
+    let auth0 = rule_if(auth0_bars(map, st, s, p), Barred::Auth0, random_id);
+    rule_if(page_bars(map, p), Barred::Open, auth0)
 }
 
-// The number of each rule.
-pub fn barred_number(b: Barred) -> u8
-    ensures { λ r. ⌜ r ≡ barredNumber b ⌝ }
+// The number of a WRITE to page p that a rule stops, or none.
+pub fn write_number(map: Map, p: u8, b: Barred) -> u8
+    ensures { λ r. ⌜ r ≡ writeNumber map p b ⌝ }
 {
-    match b {
-        Barred::Open => 0,
-        Barred::Auth0 => 6,
-        Barred::RandomId => 6,
-        Barred::OwnLock => 7,
-        Barred::PairLock => 7,
-        Barred::KeyLock => 7,
-        Barred::ConfigLock => 7,
-    }
-}
-
-// WRITE of q to page p: pages 02h to 3Bh can be written.
-pub fn write_number(map: Map, st: State, s: &[u8], p: u8, q: Quad) -> u8
-    ensures { λ r. ⌜ r ≡ writeNumber map st (now (s .entry)) p q ⌝ }
-{
-    numbers::first(
-        numbers::number_if((p < map.locks) | (sizes::last_page(map) < p), 5),
-        barred_number(barred(map, st, s, p, q)),
-    )
+    first(number_if(page_bars(map, p), 5), barred_number(b))
 }

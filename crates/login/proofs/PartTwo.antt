@@ -15,6 +15,7 @@ use lib.Seq.{take-all}
 use Rattle.fips197.specs.Cbc.{cbcEncipher}
 use Rattle.aes.specs.declared.TwoBlocks.{TwoBlocks}
 use Rattle.aes.specs.TwoBlocks.{cbcDecipherTwo}
+use Rattle.model.specs.declared.Barred.the-variants.{Open}
 use Rattle.model.specs.declared.Map.{Map}
 use Rattle.model.specs.declared.Tag.{Tag}
 use Rattle.model.specs.declared.Command.the-variants.{Proof}
@@ -32,13 +33,14 @@ module _ (m : Map) (tag : Tag) (s f random : List ℕ) where
   unfolding commandNumber proofNumber first numberIf
   limited-number h = rw h
 
-  pub proof-at-limit : limitReached m tag s ≡ true → commanded Proof m tag s f random ≡ refused 11 Keep
+  pub proof-at-limit : limitReached m tag s ≡ true → commanded Proof m tag s f random ≡ refused 11 Open Keep
   proof-at-limit h = proof-limited m tag s f random (limited-number h)
 
   -- a login, from the key and the reader's block
   abbrev pub grantedOf : List ℕ → List ℕ → Decision
   grantedOf key theirs = record {
     number = 0;
+    reason = Open;
     effect = lowered m tag s;
     say = Block 0x00;
     block = cbcEncipher key zeros (rotated theirs);
@@ -74,7 +76,7 @@ module _ (m : Map) (tag : Tag) (s f random : List ℕ) where
         same : sameBytes (answer .second) expected ≡ sameBytes (proofSecond m tag s f) (rotated (tag .challenge))
         same = λ i. sameBytes (second i) (turned i)
 
-        pub proof-refused : sameBytes (answer .second) expected ≡ false → commanded Proof m tag s f random ≡ refused 8 (raised m tag s)
+        pub proof-refused : sameBytes (answer .second) expected ≡ false → commanded Proof m tag s f random ≡ refused 8 Open (raised m tag s)
         proof-refused h = proof-false m tag s f random (false-number (sym same ∙ h))
 
         done : grantedOf key (answer .first) ≡ commandDone Proof m tag s f random

@@ -1,6 +1,7 @@
 // AUTHENTICATE and its second part, 009 8.6.1, 8.6.5 and 10.10.
 use judge::authentication;
 use memory::record;
+use model::Barred;
 use model::Decision;
 use model::Effect;
 use model::Map;
@@ -14,6 +15,7 @@ ghost use lib.ListN.{length};
 ghost use Rattle.model.specs.declared.Command.the-variants.{Authenticate, Proof};
 ghost use Rattle.model.specs.Authentication.{keyOf, limitReached, lowered, rotated, challenged, loggedIn};
 ghost use Rattle.model.specs.Record.{zeros, keyNumber};
+ghost use Rattle.model.specs.declared.Barred.the-variants.{Open};
 ghost use Rattle.model.specs.declared.Say.the-variants.{Block};
 ghost use Rattle.fips197.specs.Cbc.{cbcEncipher};
 ghost use Rattle.model.specs.Frame.{commanded};
@@ -27,6 +29,7 @@ fn challenge(map: Map, tag: Tag, s: &[u8], k: u8, random: &[u8]) -> Decision
     let sent = keys::enciphered(keys::key_of(map, tag, s, k), kept);
     Decision {
         number: 0,
+        reason: Barred::Open,
         effect: Effect::Keep,
         say: Say::Block(0xaf),
         block: sent,
@@ -45,7 +48,7 @@ pub fn authenticate(map: Map, tag: Tag, s: &[u8], f: &[u8], random: &[u8]) -> De
     if n == 0 {
         return challenge(map, tag, s, k, random);
     }
-    decisions::refused(n, Effect::Keep)
+    decisions::refused(n, Barred::Open, Effect::Keep)
 }
 
 // The state that key number k leads to.
@@ -71,12 +74,13 @@ fn asked_key(map: Map, tag: Tag, s: &[u8]) -> [u8; 16]
 
 // Part 2 done: the reader's block, rotated and enciphered, goes out.
 fn logged(map: Map, tag: Tag, s: &[u8], key: [u8; 16], theirs: [u8; 16]) -> Decision
-    ensures { λ r. ⌜ r ≡ record { number = 0; effect = lowered map tag (now (s .entry)); say = Block 0x00; block = cbcEncipher key zeros (rotated theirs); state = loggedIn (keyNumber (tag .state)); challenge = zeros } ⌝ }
+    ensures { λ r. ⌜ r ≡ record { number = 0; reason = Open; effect = lowered map tag (now (s .entry)); say = Block 0x00; block = cbcEncipher key zeros (rotated theirs); state = loggedIn (keyNumber (tag .state)); challenge = zeros } ⌝ }
 {
     let st = tag.state;
     let sent = keys::enciphered(key, keys::rotated(theirs));
     Decision {
         number: 0,
+        reason: Barred::Open,
         effect: authentication::lowered(map, tag, s),
         say: Say::Block(0x00),
         block: sent,
@@ -100,7 +104,7 @@ fn judge_answer(map: Map, tag: Tag, s: &[u8], f: &[u8], random: &[u8]) -> Decisi
     if keys::same_bytes(ours, keys::rotated(challenge)) {
         return logged(map, tag, s, key, theirs);
     }
-    decisions::refused(8, authentication::raised(map, tag, s))
+    decisions::refused(8, Barred::Open, authentication::raised(map, tag, s))
 }
 
 // AUTHENTICATE, part 2.
@@ -110,7 +114,7 @@ pub fn prove(map: Map, tag: Tag, s: &[u8], f: &[u8], random: &[u8]) -> Decision
     ensures { λ r. ⌜ r ≡ commanded Proof map tag (now (s .entry)) (now (f .entry)) (now (random .entry)) ⌝ }
 {
     if authentication::limit_reached(map, tag, s) {
-        return decisions::refused(11, Effect::Keep);
+        return decisions::refused(11, Barred::Open, Effect::Keep);
     }
     judge_answer(map, tag, s, f, random)
 }

@@ -2,29 +2,35 @@
 --
 --   first-zero, numberIf-zero   no check applied
 --   Carried, carried            number 0: a known command that is allowed, none of its checks applied, and what it comes to
+--   decide-is                   what holds of a command done, of nothing changed and of a refusal holds of what a frame comes to
 --   eight-open                  8 is answered only where the limit is not reached
 --   one-waiting, ten-misfit     1 is answered only while WAITING, 10 only for a misfit
 --   waiting-one                 while WAITING a frame that fits is answered 1
 --
 -- Assumes nothing.
-use mathlib.Core.Path.{_≡_, refl}
+use mathlib.Core.Path.{_≡_, refl, sym, subst}
 use mathlib.Core.List.{List}
-use mathlib.Core.Bool.{Bool, true, false, not}
+use mathlib.Core.Bool.{Bool, true, false, not, _||_, cond}
 use Prim.Native.Nat.{ℕ, zero, suc}
 use native.Mathlib.Omega.{arith}
 use borrow.Author.Tests.{not-false}
+use lib.Dec.{eqb}
 use lib.ListN.{length, getD}
 use Rattle.model.specs.declared.Map.{Map}
 use Rattle.model.specs.declared.Tag.{Tag}
 use Rattle.model.specs.declared.Command.{Command}
+use Rattle.model.specs.declared.Barred.{Barred}
+use Rattle.model.specs.declared.Effect.{Effect}
+use Rattle.model.specs.declared.Decision.{Decision}
 use Rattle.model.specs.declared.Told.{Told}
 use Rattle.model.specs.declared.Told.the-variants.{Known, Nothing}
 use Rattle.model.specs.Record.{isWaiting}
-use Rattle.model.specs.Numbers.{numberIf, first}
+use Rattle.model.specs.Numbers.{numberIf, first, kept, refused}
 use Rattle.model.specs.Telling.{damaged, told, allowed, toldNumber}
 use Rattle.model.specs.Authentication.{limitReached}
-use Rattle.model.specs.Frame.{misfit, commandNumber, commandDone, toldCommandNumber, toldDone, frameNumber, decide}
-use Rattle.model.proofs.Numbers.{numbers-of-frame, decide-done}
+use Rattle.model.specs.Frame.{misfit, commandNumber, commandDone, earlierNumber, notDone, decide}
+use Rattle.model.proofs.Parts.{toldCommandNumber, toldDone, frameNumber, frameReason}
+use Rattle.model.proofs.Numbers.{numbers-of-frame, decide-done, decide-not}
 
 pub first-zero : (a b : ℕ) → first a b ≡ 0 → (a ≡ 0) × (b ≡ 0)
 unfolding first
@@ -67,14 +73,33 @@ module _ (m : Map) (tag : Tag) (s f random : List ℕ) (room : ℕ) where
   by-told Nothing e n own awake fits whole d = absurd (omega arith)
 
   pub carried : frameNumber m tag s f random room ≡ 0 → Carried m tag s f random room
-  unfolding frameNumber
+  unfolding earlierNumber frameNumber
   carried h =
-      let one = first-zero _ _ h in
+      let all = first-zero _ _ h in
+      let one = first-zero _ _ (all .0) in
       let two = first-zero _ _ (one .1) in
       let three = first-zero _ _ (two .1) in
-      let four = first-zero _ _ (three .1) in
-      by-told (told (getD f 0 0)) refl (four .0) (four .1) (numberIf-zero _ 0 (two .0)) (numberIf-zero _ 9 (one .0)) (numberIf-zero _ 1 (three .0))
+      by-told (told (getD f 0 0)) refl (three .1) (all .1) (numberIf-zero _ 0 (two .0)) (numberIf-zero _ 9 (one .0)) (numberIf-zero _ 1 (three .0))
       (decide-done m tag s f random room h)
+
+  module _ (P : Decision → Type 0) (done : (c : Carried m tag s f random room) → P (commandDone (c .command) m tag s f random))
+      (same : (n : ℕ) → P (kept n tag)) (ended : (n : ℕ) (b : Barred) (e : Effect) → P (refused n b e)) where
+    not-done-is : (n : ℕ) (b : Barred) → P (notDone m tag s n b)
+    unfolding notDone
+    not-done-is n b = pick (eqb n 1 || eqb n 10) _
+      where
+        pick : (x : Bool) (e : Effect) → P (cond x (kept n tag) (refused n b e))
+        pick true e = same n
+        pick false e = ended n b e
+
+    by-number : (n : ℕ) → frameNumber m tag s f random room ≡ n → P (decide m tag s f random room)
+    by-number zero h = let c = carried h in subst P (sym (c .decided)) (done c)
+    by-number (suc n) h =
+        subst P (sym (decide-not m tag s f random room (λ z. omega arith)))
+        (not-done-is (frameNumber m tag s f random room) (frameReason m tag s f random room))
+
+    pub decide-is : P (decide m tag s f random room)
+    decide-is = by-number (frameNumber m tag s f random room) refl
 
 -- ---- the numbers 1, 8 and 10
 
@@ -122,5 +147,5 @@ module _ (m : Map) (tag : Tag) (s f random : List ℕ) (room : ℕ) where
   ten-misfit = tells .2
 
   pub waiting-one : misfit m tag s random room ≡ false → isWaiting (tag .state) ≡ true → frameNumber m tag s f random room ≡ 1
-  unfolding frameNumber numberIf first
+  unfolding earlierNumber frameNumber numberIf first
   waiting-one fits waits = rw (fits, waits)

@@ -18,12 +18,12 @@ use Rattle.model.specs.Record.{exists, possible}
 use Rattle.model.specs.Numbers.{numberIf, first, nibbleOf, kept, refused, answered, acknowledged}
 use Rattle.model.specs.Telling.{damaged, told, allowed, toldNumber}
 use Rattle.model.specs.Reading.{readBarred, readNumber, fastReadNumber, lastReadable, readWindow, fastRange, hidden, shownByte, shownPages}
-use Rattle.model.specs.Writing.{auth0Bars, randomIdBars, ownLockBars, pairLockBars, keyLockBars, configLockBars, barred, writeNumber}
+use Rattle.model.specs.Writing.{pageBars, auth0Bars, randomIdBars, ownLockBars, pairLockBars, keyLockBars, configLockBars, barred, writeNumber}
 use Rattle.model.specs.Writing.{freezeRows, pairFreezeRows, frozen, merged, keepOf, openedOf, written}
 use Rattle.model.specs.Counters.{counterBarred, readCntNumber, incrCntNumber}
 use Rattle.model.specs.Authentication.{pageKey, keyOf, rotated, limitReached, raised, lowered, challengeNumber, challenged}
 use Rattle.model.specs.Authentication.{proofFirst, proofSecond, sameBytes, proofNumber, proved}
-use Rattle.model.specs.Frame.{misfit, commandNumber, halted, commandDone, frameNumber, notDone, decide, saidOf}
+use Rattle.model.specs.Frame.{misfit, commandReason, commandNumber, halted, commandDone, commanded, earlierNumber, notDone, decide, saidOf}
 use Rattle.model.specs.Frame.{countersAfter, failedAfter, storeAfter, tagAfter, frame}
 use Rattle.model.specs.Image.{imageOf, checkBytesRight, imageRight, tagOf, storeOf, loadNumber, load, saveNumber, save}
 use Rattle.model.specs.Calls.{step}
@@ -38,10 +38,10 @@ unfolding bitOf oneWay crcBit crcBits crcByte crcFrom crcA onAir withCrc
     mf0aes20 randomIdOn auth0 readProtected configLocked incrOpen readOpen authLimit keyLockBit exists possible
     numberIf first nibbleOf kept refused answered acknowledged damaged told allowed toldNumber
     readBarred readNumber fastReadNumber lastReadable readWindow fastRange hidden shownByte shownPages
-    auth0Bars randomIdBars ownLockBars pairLockBars keyLockBars configLockBars barred writeNumber freezeRows pairFreezeRows frozen merged keepOf openedOf written
+    pageBars auth0Bars randomIdBars ownLockBars pairLockBars keyLockBars configLockBars barred writeNumber freezeRows pairFreezeRows frozen merged keepOf openedOf written
     counterBarred readCntNumber incrCntNumber
     pageKey keyOf rotated limitReached raised lowered challengeNumber challenged proofFirst proofSecond sameBytes proofNumber proved
-    misfit commandNumber halted commandDone frameNumber notDone decide saidOf countersAfter failedAfter storeAfter tagAfter frame
+    misfit commandReason commandNumber halted commandDone commanded earlierNumber notDone decide saidOf countersAfter failedAfter storeAfter tagAfter frame
     imageOf checkBytesRight imageRight tagOf storeOf loadNumber load saveNumber save step patched base
     sameSaid sameState storedRight leftRight lineRight playedRight caseRight allRight
 computing = 0

@@ -12,6 +12,7 @@ use lib.Dec.{ltb, eqb, lit≤}
 use lib.ListN.{length}
 use Rattle.model.specs.declared.Tag.{Tag}
 use Rattle.model.specs.declared.Map.{Map}
+use Rattle.model.specs.declared.Barred.{Barred}
 use Rattle.model.specs.declared.Effect.{Effect}
 use Rattle.model.specs.declared.Effect.the-variants.{Keep, Failed}
 use Rattle.model.specs.Map.{mf0aes20, storeSize}
@@ -20,10 +21,11 @@ use Rattle.model.specs.Record as record′
 use Rattle.model.specs.Record.{possible}
 use Rattle.model.specs.Numbers.{numberIf, first, kept, refused}
 use Rattle.model.specs.Authentication.{raised}
-use Rattle.model.specs.Frame.{frameNumber, decide, saidOf, countersAfter, failedAfter, storeAfter, tagAfter, outcome, frame}
+use Rattle.model.specs.Frame.{decide, saidOf, countersAfter, failedAfter, storeAfter, tagAfter, outcome, frame}
 use Rattle.model.specs.Image.{imageSize, imageRight, loadNumber, load, saveNumber, save}
 use Rattle.model.specs.Calls.{storedOf, step}
 use Rattle.model.specs.Demand1.{NumberInTable, Ended, RefusalEnds, Unchanged, KeepsAll, PowerKeepsStored, SelectKeepsStored, LoadRefused, SaveRefused}
+use Rattle.model.proofs.Parts.{frameNumber, frameReason}
 use Rattle.model.proofs.Numbers.{numbers-of-frame, decide-number, decide-not, not-done-refused, not-done-kept}
 
 pub number-in-table : NumberInTable
@@ -73,10 +75,10 @@ count-raised true true v c = refl
 count-raised true false v c = refl
 count-raised false off v c = refl
 
-refused-ends : (m : Map) (tag : Tag) (s : List ℕ) (n : ℕ)
-    → Ended tag s (outcome mf0aes20 tag s (refused n (cond (eqb n 8) (raised mf0aes20 tag s) Keep)))
+refused-ends : (m : Map) (tag : Tag) (s : List ℕ) (n : ℕ) (b : Barred)
+    → Ended tag s (outcome mf0aes20 tag s (refused n b (cond (eqb n 8) (raised mf0aes20 tag s) Keep)))
 unfolding refused raised saidOf tagAfter
-refused-ends m tag s n = record {
+refused-ends m tag s n b = record {
   waiting = refl;
   forgotten = refl;
   nak = refl;
@@ -90,9 +92,9 @@ refused-ends m tag s n = record {
 -- what a frame comes to, by its number
 frame-refused : (tag : Tag) (s f random : List ℕ) (room : ℕ) → let n = frameNumber mf0aes20 tag s f random room in
     (n ≡ 0 → ⊥) → (n ≡ 1 → ⊥) → (n ≡ 10 → ⊥)
-    → decide mf0aes20 tag s f random room ≡ refused n (cond (eqb n 8) (raised mf0aes20 tag s) Keep)
+    → decide mf0aes20 tag s f random room ≡ refused n (frameReason mf0aes20 tag s f random room) (cond (eqb n 8) (raised mf0aes20 tag s) Keep)
 frame-refused tag s f random room h0 h1 h10 =
-    decide-not mf0aes20 tag s f random room h0 ∙ not-done-refused mf0aes20 tag s (frameNumber mf0aes20 tag s f random room) h1 h10
+    decide-not mf0aes20 tag s f random room h0 ∙ not-done-refused mf0aes20 tag s (frameNumber mf0aes20 tag s f random room) (frameReason mf0aes20 tag s f random room) h1 h10
 
 pub refusal-ends : RefusalEnds
 unfolding frame
@@ -102,11 +104,11 @@ refusal-ends tag s f random room h0 h1 h10 =
     let e = decide-number m tag s f random room in
     subst (λ d. Ended tag s (outcome m tag s d))
     (sym (frame-refused tag s f random room (λ p. h0 (e ∙ p)) (λ p. h1 (e ∙ p)) (λ p. h10 (e ∙ p))))
-    (refused-ends m tag s n)
+    (refused-ends m tag s n (frameReason m tag s f random room))
 
 kept-unchanged : (tag : Tag) (s : List ℕ) (n : ℕ) → Unchanged tag s (outcome mf0aes20 tag s (kept n tag))
 unfolding kept saidOf tagAfter storeAfter countersAfter failedAfter
-kept-unchanged tag s n = record { record′ = refl; pages = refl; silent = refl }
+kept-unchanged tag s n = record { record′ = refl; pages = refl; silent = refl; unstopped = refl }
 
 not-zero : (n : ℕ) → (n ≡ 1) ⊎ (n ≡ 10) → n ≡ 0 → ⊥
 not-zero n (inl h) z = omega arith
@@ -120,7 +122,7 @@ keeps-all tag s f random room h =
     let e = decide-number m tag s f random room in
     let h′ : (n ≡ 1) ⊎ (n ≡ 10) = subst (λ (k : ℕ). (k ≡ 1) ⊎ (k ≡ 10)) e h in
     subst (λ d. Unchanged tag s (outcome m tag s d))
-    (sym (decide-not m tag s f random room (not-zero n h′) ∙ not-done-kept m tag s n h′))
+    (sym (decide-not m tag s f random room (not-zero n h′) ∙ not-done-kept m tag s n (frameReason m tag s f random room) h′))
     (kept-unchanged tag s n)
 
 -- ---- the other calls

@@ -20,9 +20,10 @@ use Rattle.model.specs.declared.State.the-variants.{Waiting, Active}
 use Rattle.model.specs.Map.{mf0aes20}
 use Rattle.model.specs.Record as record′
 use Rattle.model.specs.Record.{isWaiting}
-use Rattle.model.specs.Frame.{silence, Outcome, frame}
+use Rattle.model.specs.Writing.{barredPlace}
+use Rattle.model.specs.Frame.{Outcome, frame}
 use Rattle.model.specs.Calls as calls
-use Rattle.model.specs.Calls.{Box, Call, power, select, Stored, storedOf, boundary, refuses, tagMachine, Fit, step}
+use Rattle.model.specs.Calls.{Box, Call, power, select, quiet, Stored, storedOf, boundary, refuses, tagMachine, Fit, step}
 use Rattle.model.specs.Demand3.{rebuilt, WakesPinned, NothingLeftOut}
 use Rattle.model.proofs.Demand1.{keeps-all}
 use Rattle.model.proofs.Carried.{waiting-one}
@@ -44,7 +45,7 @@ unfolding step storedOf boundary
 resets b e power h p =
     λ i. record {
       number = 0;
-      said = silence;
+      said = quiet;
       next = record {
         tag = record′.fleeting Waiting record′.zeros (rebuilt (p i) Waiting record′.zeros .tag);
         store = p i .pages;
@@ -53,7 +54,7 @@ resets b e power h p =
 resets b e select h p =
     λ i. record {
       number = 0;
-      said = silence;
+      said = quiet;
       next = record {
         tag = record′.fleeting Active record′.zeros (rebuilt (p i) Active record′.zeros .tag);
         store = p i .pages;
@@ -102,7 +103,7 @@ sleeps b f random room v a h =
     frame-number b f random room
     ∙ waiting-one mf0aes20 (b .tag) (b .store) f random room (fits-valid b random room v (h .0 .0) (h .0 .1)) a in
     let u = keeps-all (b .tag) (b .store) f random room (inl one) in
-    record { uncut = refl; silent = u .silent; kept = λ i. record { tag = u .record′ i; store = u .pages i } }
+    record { uncut = refl; silent = λ i. record { reply = u .silent i; place = barredPlace (u .unstopped i) }; kept = λ i. record { tag = u .record′ i; store = u .pages i } }
 
 pub wakes-pinned : WakesPinned
 unfolding step

@@ -21,6 +21,7 @@ use lib.Dec.{eqb, lit<, lit≤}
 use lib.ListN.{length, getD}
 use Rattle.model.specs.declared.Tag.{Tag}
 use Rattle.model.specs.declared.State.{State}
+use Rattle.model.specs.declared.Barred.{Barred}
 use Rattle.model.specs.declared.Effect.the-variants.{Keep}
 use Rattle.model.specs.declared.Decision.{Decision}
 use Rattle.model.specs.Map.{mf0aes20, lastPage}
@@ -29,8 +30,9 @@ use Rattle.model.specs.Numbers.{kept, refused, answered}
 use Rattle.model.specs.Telling.{told}
 use Rattle.model.specs.Reading.{readBarred, readNumber, fastReadNumber, lastReadable, readWindow, fastRange, hidden, shownByte, shownPages}
 use Rattle.model.specs.Authentication.{raised}
-use Rattle.model.specs.Frame.{misfit, commandNumber, commandDone, toldDone, frameNumber, notDone, concluded, decide, saidOf, frame}
+use Rattle.model.specs.Frame.{misfit, commandNumber, commandDone, earlierNumber, notDone, concluded, saidOf, frame}
 use Rattle.model.specs.CallClaims.{Reads, ReadAlike, RandomIdHides, KeysHidden}
+use Rattle.model.proofs.Parts.{toldDone, frameNumber, decide-parts}
 use Rattle.model.proofs.Numbers.{decide-number}
 
 -- two stores of one length that agree where RID_ACT, AUTH0 and PROT lie, and at every byte that is not hidden
@@ -71,7 +73,7 @@ module _ (tag : Tag) (s t : List ℕ) (h : Alike (tag .state) s t) where
 
   number-alike : (f random : List ℕ) (room : ℕ) → Reads f
       → frameNumber mf0aes20 tag s f random room ≡ frameNumber mf0aes20 tag t f random room
-  unfolding frameNumber misfit commandNumber readNumber fastReadNumber told
+  unfolding earlierNumber frameNumber misfit commandNumber readNumber fastReadNumber told
   number-alike f random room (inl code) = rw (h .long, code, barred-alike (getD f 1 0))
   number-alike f random room (inr code) = rw (h .long, code, barred-alike (getD f 2 0))
 
@@ -86,23 +88,25 @@ module _ (tag : Tag) (s t : List ℕ) (h : Alike (tag .state) s t) where
   done-alike f random (inr code) = rw (code, pages-alike (fastRange (getD f 1 0) (getD f 2 0)))
 
   -- a number other than 0 is answered without the store
-  concluded-alike : (n : ℕ) (d e : Decision) → SaidAlike d e → SaidAlike (concluded n mf0aes20 tag s d) (concluded n mf0aes20 tag t e)
+  concluded-alike : (n : ℕ) (b b′ : Barred) (d e : Decision) → SaidAlike d e
+      → SaidAlike (concluded n b mf0aes20 tag s d) (concluded n b′ mf0aes20 tag t e)
   unfolding notDone kept refused saidOf
-  concluded-alike zero d e h = h
-  concluded-alike (suc n) d e h = pick (eqb (suc n) 1 || eqb (suc n) 10)
+  concluded-alike zero b b′ d e h = h
+  concluded-alike (suc n) b b′ d e h = pick (eqb (suc n) 1 || eqb (suc n) 10)
     where
-      pick : (b : Bool)
-          → SaidAlike (cond b (kept (suc n) tag) (refused (suc n) (cond (eqb (suc n) 8) (raised mf0aes20 tag s) Keep)))
-          (cond b (kept (suc n) tag) (refused (suc n) (cond (eqb (suc n) 8) (raised mf0aes20 tag t) Keep)))
+      pick : (x : Bool)
+          → SaidAlike (cond x (kept (suc n) tag) (refused (suc n) b (cond (eqb (suc n) 8) (raised mf0aes20 tag s) Keep)))
+          (cond x (kept (suc n) tag) (refused (suc n) b′ (cond (eqb (suc n) 8) (raised mf0aes20 tag t) Keep)))
       pick true = refl
       pick false = refl
 
   read-alike : ReadAlike tag s t
-  unfolding frame decide
+  unfolding frame
   read-alike f random room reads =
       let n = number-alike f random room reads in (
         decide-number mf0aes20 tag s f random room ∙ n ∙ sym (decide-number mf0aes20 tag t f random room),
-        rw n (concluded-alike (frameNumber mf0aes20 tag t f random room) _ _ (done-alike f random reads)),
+        rw (decide-parts mf0aes20 tag s f random room, decide-parts mf0aes20 tag t f random room, n)
+            (concluded-alike (frameNumber mf0aes20 tag t f random room) _ _ _ _ (done-alike f random reads)),
       )
 
 pub random-id-hides : RandomIdHides

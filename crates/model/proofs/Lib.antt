@@ -1,3 +1,4 @@
+pub mod Parts
 pub mod Numbers
 pub mod Misfit
 pub mod Demand1
@@ -16,5 +17,6 @@ pub mod ProofExact
 pub mod CallClaims
 pub mod Stages
 pub mod Ruling
+pub mod Reasons
 pub mod Computing
 pub mod Cases

@@ -2,13 +2,13 @@
 --
 --   first-is, numberIf-is     what holds of the numbers that checks can give holds of the one they give
 --   numbers-of-command        what holds of each number that a command can get holds of the one it gets
---   numbers-of-frame          the same for a frame
+--   numbers-of-earlier, numbers-of-frame     the same for the checks before a command's own, and for a frame
 --   done-number               a command that is carried out is answered 0
 --   decide-number             what a frame comes to has the frame's number
 --   decide-done, decide-not   what it is where the number is 0, and where it is not
 --
 -- Assumes nothing.
-use mathlib.Core.Path.{_≡_, refl, ap}
+use mathlib.Core.Path.{_≡_, refl, ap, _∙_}
 use mathlib.Core.List.{List}
 use mathlib.Core.Bool.{Bool, true, false, _||_, cond}
 use mathlib.Core.Logic.{_⊎_, inl, inr}
@@ -32,10 +32,11 @@ use Rattle.model.specs.Numbers.{numberIf, first, kept, refused, answered
 use Rattle.model.specs.Record.{isWaiting}
 use Rattle.model.specs.Telling.{damaged, told, toldNumber}
 use Rattle.model.specs.Reading.{readNumber, fastReadNumber}
-use Rattle.model.specs.Writing.{barred, barredNumber, writeNumber}
+use Rattle.model.specs.Writing.{barredNumber, writeNumber}
 use Rattle.model.specs.Counters.{readCntNumber, incrCntNumber}
 use Rattle.model.specs.Authentication.{limitReached, raised, challengeNumber, challenged, proofNumber, proved}
-use Rattle.model.specs.Frame.{misfit, data4, commandNumber, halted, commandDone, toldCommandNumber, toldDone, frameNumber, notDone, concluded, decide}
+use Rattle.model.specs.Frame.{misfit, commandReason, commandNumber, halted, commandDone, earlierNumber, notDone, concluded, decide}
+use Rattle.model.proofs.Parts.{toldCommandNumber, toldDone, frameNumber, frameReason, decide-parts}
 
 -- ---- which numbers there are
 
@@ -71,7 +72,7 @@ pub record OfFrame (m : Map) (tag : Tag) (s f random : List ℕ) (room : ℕ) (P
   pub of10 : misfit m tag s random room ≡ true → P 10
 
 module _ (m : Map) (tag : Tag) (s f : List ℕ) (P : ℕ → Type 0) where
-  pub of-barred : P 0 → P 6 → P 7 → (b : Barred) → P (barredNumber b)
+  of-barred : P 0 → P 6 → P 7 → (b : Barred) → P (barredNumber b)
   of-barred p0 p6 p7 Open = p0
   of-barred p0 p6 p7 Auth0 = p6
   of-barred p0 p6 p7 RandomId = p6
@@ -79,6 +80,10 @@ module _ (m : Map) (tag : Tag) (s f : List ℕ) (P : ℕ → Type 0) where
   of-barred p0 p6 p7 PairLock = p7
   of-barred p0 p6 p7 KeyLock = p7
   of-barred p0 p6 p7 ConfigLock = p7
+
+  pub of-write : P 0 → P 5 → P 6 → P 7 → (p : ℕ) (b : Barred) → P (writeNumber m p b)
+  unfolding writeNumber
+  of-write p0 p5 p6 p7 p b = first-is P (numberIf _ 5) _ (numberIf-is P _ 5 p0 (λ _. p5)) (of-barred p0 p6 p7 b)
 
   pub two-checks : (t u : Bool) (n k : ℕ) → P 0 → P n → P k → P (first (numberIf t n) (numberIf u k))
   two-checks t u n k p0 pn pk = first-is P (numberIf t n) (numberIf u k) (numberIf-is P t n p0 (λ _. pn)) (numberIf-is P u k p0 (λ _. pk))
@@ -90,11 +95,10 @@ module _ (m : Map) (tag : Tag) (s f : List ℕ) (P : ℕ → Type 0) where
   limit-first false u p0 p11 p8 = numberIf-is P u 8 p0 (λ _. p8 refl)
 
   pub numbers-of-command : OfCommand m tag s P → (c : Command) → P (commandNumber c m tag s f)
-  unfolding commandNumber readNumber fastReadNumber writeNumber readCntNumber incrCntNumber challengeNumber proofNumber
+  unfolding commandNumber readNumber fastReadNumber readCntNumber incrCntNumber challengeNumber proofNumber
   numbers-of-command h Read = two-checks _ _ 5 6 (h .of0) (h .of5) (h .of6)
   numbers-of-command h FastRead = two-checks _ _ 5 6 (h .of0) (h .of5) (h .of6)
-  numbers-of-command h Write =
-      first-is P (numberIf _ 5) _ (numberIf-is P _ 5 (h .of0) (λ _. h .of5)) (of-barred (h .of0) (h .of6) (h .of7) (barred m (tag .state) s (getD f 1 0) (data4 f)))
+  numbers-of-command h Write = of-write (h .of0) (h .of5) (h .of6) (h .of7) (getD f 1 0) (commandReason Write m tag s f)
   numbers-of-command h ReadCnt = two-checks _ _ 5 6 (h .of0) (h .of5) (h .of6)
   numbers-of-command h IncrCnt =
       first-is P (numberIf _ 5) _ (numberIf-is P _ 5 (h .of0) (λ _. h .of5)) (two-checks _ _ 6 9 (h .of0) (h .of6) (h .of9))
@@ -111,16 +115,22 @@ module _ (m : Map) (tag : Tag) (s f : List ℕ) (P : ℕ → Type 0) where
   of-told-command h (Known c k) = numbers-of-command h c
   of-told-command h Nothing = h .of0
 
+-- the checks before a command's own
+pub numbers-of-earlier : (m : Map) (tag : Tag) (s f random : List ℕ) (room : ℕ) (P : ℕ → Type 0) → P 0
+    → (misfit m tag s random room ≡ true → P 10) → (isWaiting (tag .state) ≡ true → P 1) → P 2 → P 3 → P 4
+    → P (earlierNumber m tag s f random room)
+unfolding earlierNumber
+numbers-of-earlier m tag s f random room P p0 p10 p1 p2 p3 p4 =
+    first-is P _ _ (numberIf-is P (misfit m tag s random room) 10 p0 p10)
+    (first-is P _ _ (numberIf-is P (isWaiting (tag .state)) 1 p0 p1)
+    (first-is P _ _ (numberIf-is P (damaged f) 2 p0 (λ _. p2)) (of-told m tag s f P p0 p3 p4 (told (getD f 0 0)) (tag .state) (length f))))
+
 pub numbers-of-frame : (m : Map) (tag : Tag) (s f random : List ℕ) (room : ℕ) (P : ℕ → Type 0)
     → OfFrame m tag s f random room P → P (frameNumber m tag s f random room)
 unfolding frameNumber
 numbers-of-frame m tag s f random room P h =
-    let p0 = h .own .of0 in
-    first-is P _ _ (numberIf-is P (misfit m tag s random room) 10 p0 (h .of10))
-    (first-is P _ _ (numberIf-is P (isWaiting (tag .state)) 1 p0 (h .of1))
-    (first-is P _ _ (numberIf-is P (damaged f) 2 p0 (λ _. h .of2))
-    (first-is P _ _ (of-told m tag s f P p0 (h .of3) (h .of4) (told (getD f 0 0)) (tag .state) (length f))
-    (of-told-command m tag s f P (h .own) (told (getD f 0 0))))))
+    first-is P _ _ (numbers-of-earlier m tag s f random room P (h .own .of0) (h .of10) (h .of1) (h .of2) (h .of3) (h .of4))
+    (of-told-command m tag s f P (h .own) (told (getD f 0 0)))
 
 -- ---- what a frame comes to, by its number
 
@@ -140,49 +150,49 @@ unfolding halted
 done-number (Known c k) m tag s f random = command-done-number c m tag s f random
 done-number Nothing m tag s f random = refl
 
-not-done-number : (m : Map) (tag : Tag) (s : List ℕ) (n : ℕ) → notDone m tag s n .number ≡ n
+not-done-number : (m : Map) (tag : Tag) (s : List ℕ) (n : ℕ) (b : Barred) → notDone m tag s n b .number ≡ n
 unfolding notDone kept refused
-not-done-number m tag s n = pick (eqb n 1 || eqb n 10) (cond (eqb n 8) (raised m tag s) Keep)
+not-done-number m tag s n b = pick (eqb n 1 || eqb n 10) (cond (eqb n 8) (raised m tag s) Keep)
   where
-    pick : (t : Bool) (e : Effect) → cond t (kept n tag) (refused n e) .number ≡ n
+    pick : (t : Bool) (e : Effect) → cond t (kept n tag) (refused n b e) .number ≡ n
     pick true e = refl
     pick false e = refl
 
-concluded-number : (n : ℕ) (m : Map) (tag : Tag) (s : List ℕ) (d : Decision) → d .number ≡ 0 → concluded n m tag s d .number ≡ n
-concluded-number zero m tag s d h = h
-concluded-number (suc n) m tag s d h = not-done-number m tag s (suc n)
+concluded-number : (n : ℕ) (b : Barred) (m : Map) (tag : Tag) (s : List ℕ) (d : Decision) → d .number ≡ 0 → concluded n b m tag s d .number ≡ n
+concluded-number zero b m tag s d h = h
+concluded-number (suc n) b m tag s d h = not-done-number m tag s (suc n) b
 
 pub decide-number : (m : Map) (tag : Tag) (s f random : List ℕ) (room : ℕ)
     → decide m tag s f random room .number ≡ frameNumber m tag s f random room
-unfolding decide
 decide-number m tag s f random room =
-    concluded-number (frameNumber m tag s f random room) m tag s (toldDone (told (getD f 0 0)) m tag s f random)
+    ap (λ (d : Decision). d .number) (decide-parts m tag s f random room)
+    ∙ concluded-number (frameNumber m tag s f random room) (frameReason m tag s f random room) m tag s (toldDone (told (getD f 0 0)) m tag s f random)
     (done-number (told (getD f 0 0)) m tag s f random)
 
-concluded-not : (n : ℕ) (m : Map) (tag : Tag) (s : List ℕ) (d : Decision) → (n ≡ 0 → ⊥) → concluded n m tag s d ≡ notDone m tag s n
-concluded-not zero m tag s d h = absurd (h refl)
-concluded-not (suc n) m tag s d h = refl
+concluded-not : (n : ℕ) (b : Barred) (m : Map) (tag : Tag) (s : List ℕ) (d : Decision) → (n ≡ 0 → ⊥) → concluded n b m tag s d ≡ notDone m tag s n b
+concluded-not zero b m tag s d h = absurd (h refl)
+concluded-not (suc n) b m tag s d h = refl
 
--- where the number is not 0, only the number counts
+-- where the number is not 0, only the number and the reason count
 pub decide-not : (m : Map) (tag : Tag) (s f random : List ℕ) (room : ℕ) → (frameNumber m tag s f random room ≡ 0 → ⊥)
-    → decide m tag s f random room ≡ notDone m tag s (frameNumber m tag s f random room)
-unfolding decide
+    → decide m tag s f random room ≡ notDone m tag s (frameNumber m tag s f random room) (frameReason m tag s f random room)
 decide-not m tag s f random room h =
-    concluded-not (frameNumber m tag s f random room) m tag s (toldDone (told (getD f 0 0)) m tag s f random) h
+    decide-parts m tag s f random room
+    ∙ concluded-not (frameNumber m tag s f random room) (frameReason m tag s f random room) m tag s (toldDone (told (getD f 0 0)) m tag s f random) h
 
 -- where it is 0, the command is carried out
 pub decide-done : (m : Map) (tag : Tag) (s f random : List ℕ) (room : ℕ) → frameNumber m tag s f random room ≡ 0
     → decide m tag s f random room ≡ toldDone (told (getD f 0 0)) m tag s f random
-unfolding decide
 decide-done m tag s f random room h =
-    ap (λ (n : ℕ). concluded n m tag s (toldDone (told (getD f 0 0)) m tag s f random)) h
+    decide-parts m tag s f random room
+    ∙ ap (λ (n : ℕ). concluded n (frameReason m tag s f random room) m tag s (toldDone (told (getD f 0 0)) m tag s f random)) h
 
-pub not-done-refused : (m : Map) (tag : Tag) (s : List ℕ) (n : ℕ) → (n ≡ 1 → ⊥) → (n ≡ 10 → ⊥)
-    → notDone m tag s n ≡ refused n (cond (eqb n 8) (raised m tag s) Keep)
+pub not-done-refused : (m : Map) (tag : Tag) (s : List ℕ) (n : ℕ) (b : Barred) → (n ≡ 1 → ⊥) → (n ≡ 10 → ⊥)
+    → notDone m tag s n b ≡ refused n b (cond (eqb n 8) (raised m tag s) Keep)
 unfolding notDone
-not-done-refused m tag s n h1 h10 = simp (ne-eqb n 1 h1, ne-eqb n 10 h10)
+not-done-refused m tag s n b h1 h10 = simp (ne-eqb n 1 h1, ne-eqb n 10 h10)
 
-pub not-done-kept : (m : Map) (tag : Tag) (s : List ℕ) (n : ℕ) → (n ≡ 1) ⊎ (n ≡ 10) → notDone m tag s n ≡ kept n tag
+pub not-done-kept : (m : Map) (tag : Tag) (s : List ℕ) (n : ℕ) (b : Barred) → (n ≡ 1) ⊎ (n ≡ 10) → notDone m tag s n b ≡ kept n tag
 unfolding notDone
-not-done-kept m tag s n (inl h) = rw h
-not-done-kept m tag s n (inr h) = rw h
+not-done-kept m tag s n b (inl h) = rw h
+not-done-kept m tag s n b (inr h) = rw h

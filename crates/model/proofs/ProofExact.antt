@@ -30,9 +30,10 @@ use Rattle.model.specs.Record.{zeros, isWaiting, keyNumber}
 use Rattle.model.specs.Numbers.{numberIf, first}
 use Rattle.model.specs.Telling.{told, allowed, toldNumber}
 use Rattle.model.specs.Authentication.{limitReached, loggedIn, pageKey, keyOf, rotated, sameBytes, proofFirst, proofSecond, proofNumber, proved}
-use Rattle.model.specs.Frame.{bytes, commandNumber, commandDone, frameNumber, saidOf, frame, tagAfter}
+use Rattle.model.specs.Frame.{bytes, commandNumber, commandDone, earlierNumber, saidOf, frame, tagAfter}
 use Rattle.model.specs.Calls.{Bytes}
 use Rattle.model.specs.CallClaims.{Asked, RightProof, ProofExact}
+use Rattle.model.proofs.Parts.{frameNumber}
 use Rattle.model.proofs.Numbers.{decide-number, decide-done}
 use Rattle.model.proofs.Carried.{numberIf-zero}
 use Rattle.model.proofs.Sound.{zeros-block}
@@ -114,7 +115,7 @@ module _ (tag : Tag) (k : ℕ) (s f random : List ℕ) (room : ℕ) (h : Asked t
   right = sameBytes (proofSecond mf0aes20 tag s f) (rotated (tag .challenge))
 
   limit-number : limitReached mf0aes20 tag s ≡ true → frameNumber mf0aes20 tag s f random room ≡ 11
-  unfolding frameNumber first numberIf told toldNumber commandNumber proofNumber
+  unfolding earlierNumber frameNumber first numberIf told toldNumber commandNumber proofNumber
   limit-number reached = rw (h .fits, awake, h .whole, h .code, permitted, h .long, reached)
 
   proofFirst-is : proofFirst mf0aes20 tag s f ≡ cbcDecipher key zeros (sent₁ f)
@@ -127,7 +128,7 @@ module _ (tag : Tag) (k : ℕ) (s f random : List ℕ) (room : ℕ) (h : Asked t
 
   module _ (below : limitReached mf0aes20 tag s ≡ false) where
     proof-number : frameNumber mf0aes20 tag s f random room ≡ numberIf (not right) 8
-    unfolding frameNumber first numberIf told toldNumber commandNumber proofNumber
+    unfolding earlierNumber frameNumber first numberIf told toldNumber commandNumber proofNumber
     proof-number = rw (h .fits, awake, h .whole, h .code, permitted, h .long, below)
 
     zero-right : frameNumber mf0aes20 tag s f random room ≡ 0 → RightProof tag k s f (cbcDecipher key zeros (sent₁ f))

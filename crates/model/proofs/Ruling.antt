@@ -2,7 +2,7 @@
 --
 --   done-by        number 0: what the command does
 --   read-other, ..  no command but part 2 is part 2
---   refused-by     another number: the end of the session, for every command but part 2
+--   refused-by     another number: the end of the session and the reason, for every command but part 2
 --
 -- Assumes nothing.
 use mathlib.Core.Path.{_≡_, sym, ap, _∙_}
@@ -13,11 +13,12 @@ use Rattle.model.specs.declared.Map.{Map}
 use Rattle.model.specs.declared.Tag.{Tag}
 use Rattle.model.specs.declared.Command.{Command}
 use Rattle.model.specs.declared.Command.the-variants.{Read, FastRead, Write, ReadCnt, IncrCnt, Authenticate, Proof, Halt}
+use Rattle.model.specs.declared.Barred.{Barred}
 use Rattle.model.specs.declared.Effect.the-variants.{Keep}
 use Rattle.model.specs.declared.Decision.{Decision}
 use Rattle.model.specs.Numbers.{refused}
 use Rattle.model.specs.Telling.{codeOf}
-use Rattle.model.specs.Frame.{commandNumber, commandDone, commanded}
+use Rattle.model.specs.Frame.{commandReason, commandNumber, commandDone, commanded}
 use Rattle.model.proofs.Stages.{commanded-done, commanded-refused}
 
 -- the code byte of a command tells it from part 2
@@ -49,6 +50,7 @@ module _ (c : Command) (m : Map) (tag : Tag) (s f random : List ℕ) (n : ℕ) (
   pub done-by : n ≡ 0 → d ≡ commandDone c m tag s f random → d ≡ commanded c m tag s f random
   done-by z e = e ∙ sym (commanded-done c m tag s f random (own ∙ z))
 
-  pub refused-by : (c ≡ Proof → ⊥) → (n ≡ 0 → ⊥) → d ≡ refused n Keep → d ≡ commanded c m tag s f random
-  refused-by other nz e =
-      e ∙ ap (λ (k : ℕ). refused k Keep) (sym own) ∙ sym (commanded-refused c other m tag s f random (λ z. nz (sym own ∙ z)))
+  pub refused-by : (c ≡ Proof → ⊥) → (b : Barred) → commandReason c m tag s f ≡ b → (n ≡ 0 → ⊥) → d ≡ refused n b Keep
+      → d ≡ commanded c m tag s f random
+  refused-by other b why nz e =
+      e ∙ sym (λ i. refused (own i) (why i) Keep) ∙ sym (commanded-refused c other m tag s f random (λ z. nz (sym own ∙ z)))

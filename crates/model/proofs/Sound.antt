@@ -29,6 +29,7 @@ use Rattle.model.specs.declared.Tag.{Tag}
 use Rattle.model.specs.declared.State.the-variants.{Challenged}
 use Rattle.model.specs.declared.Command.{Command}
 use Rattle.model.specs.declared.Command.the-variants.{Read, FastRead, Write, ReadCnt, IncrCnt, Authenticate, Proof, Halt}
+use Rattle.model.specs.declared.Barred.{Barred}
 use Rattle.model.specs.declared.Effect.the-variants.{Keep, Failed}
 use Rattle.model.specs.Map.{mf0aes20, replySize, byteOf}
 use Rattle.model.specs.Settings.{authLimit}
@@ -38,9 +39,10 @@ use Rattle.model.specs.Numbers.{kept, refused, answered, acknowledged}
 use Rattle.model.specs.Writing.{merged, keepOf, openedOf, written}
 use Rattle.model.specs.Counters.{increment, incrCntNumber}
 use Rattle.model.specs.Authentication.{limitReached, raised, lowered, challengeNumber, challenged, loggedIn, proved}
-use Rattle.model.specs.Frame.{misfit, data4, commandNumber, halted, commandDone, frameNumber, notDone, decide, frame}
+use Rattle.model.specs.Frame.{misfit, data4, commandNumber, halted, commandDone, notDone, decide, frame}
 use Rattle.model.specs.Calls as calls
 use Rattle.model.specs.Calls.{Box, Call, power, select, tagMachine, Bytes, Fit, step}
+use Rattle.model.proofs.Parts.{frameNumber, frameReason}
 use Rattle.model.proofs.Numbers.{decide-not}
 use Rattle.model.proofs.Carried.{first-zero, numberIf-zero, carried, eight-open}
 use Rattle.model.proofs.Valid.{Valid, EffectSound, Sound, valid-after}
@@ -144,16 +146,16 @@ raised-sound m tag s hs h = pick (eqb (authLimit m s) 0) h
     pick true e = tt
     pick false e = omega (arith, leb-false (authLimit m s) (tag .failed) e, limit-low m s hs)
 
-not-done-sound : (b : Box) → Valid b → (n : ℕ) → (n ≡ 8 → limitReached mf0aes20 (b .tag) (b .store) ≡ false)
-    → Sound (notDone mf0aes20 (b .tag) (b .store) n)
+not-done-sound : (b : Box) → Valid b → (n : ℕ) (why : Barred) → (n ≡ 8 → limitReached mf0aes20 (b .tag) (b .store) ≡ false)
+    → Sound (notDone mf0aes20 (b .tag) (b .store) n why)
 unfolding notDone kept refused exists
-not-done-sound b v n open8 = pick (eqb n 1 || eqb n 10) (eqb n 8) (λ e. open8 (eqb-true n 8 e))
+not-done-sound b v n why open8 = pick (eqb n 1 || eqb n 10) (eqb n 8) (λ e. open8 (eqb-true n 8 e))
   where
     m : Map
     m = mf0aes20
 
     pick : (keep eight : Bool) → (eight ≡ true → limitReached m (b .tag) (b .store) ≡ false)
-        → Sound (cond keep (kept n (b .tag)) (refused n (cond eight (raised m (b .tag) (b .store)) Keep)))
+        → Sound (cond keep (kept n (b .tag)) (refused n why (cond eight (raised m (b .tag) (b .store)) Keep)))
     pick true eight h = record { effect = tt; known = v .known; challenge = v .challenge }
     pick false true h = record { effect = raised-sound m (b .tag) (b .store) (v .bytes) (h refl); known = refl; challenge = zeros-block }
     pick false false h = record { effect = tt; known = refl; challenge = zeros-block }
@@ -177,7 +179,7 @@ decision-sound b f random room v hf hr = pick (ℕ-discrete (frameNumber m tag s
         subst Sound (sym (c .decided)) (command-sound b f random v hf hr (c .command) (c .own))
     pick (no other) =
         subst Sound (sym (decide-not m tag s f random room other))
-        (not-done-sound b v (frameNumber m tag s f random room) (eight-open m tag s f random room))
+        (not-done-sound b v (frameNumber m tag s f random room) (frameReason m tag s f random room) (eight-open m tag s f random room))
 
 -- ---- the step
 

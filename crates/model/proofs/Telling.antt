@@ -20,10 +20,11 @@ use Rattle.model.specs.declared.Told.the-variants.{Known, Nothing}
 use Rattle.model.specs.Map.{mf0aes20}
 use Rattle.model.specs.Record.{isWaiting}
 use Rattle.model.specs.Telling.{codeOf, told}
-use Rattle.model.specs.Frame.{frameNumber, frame}
+use Rattle.model.specs.Frame.{frame}
 use Rattle.model.specs.Calls as calls
 use Rattle.model.specs.Calls.{Box, Fit}
 use Rattle.model.specs.Demand1.{Ended, Unchanged}
+use Rattle.model.proofs.Parts.{frameNumber}
 use Rattle.model.proofs.Numbers.{decide-number}
 use Rattle.model.proofs.Demand1.{refusal-ends, keeps-all}
 use Rattle.model.proofs.Carried.{Carried, carried, one-waiting, ten-misfit}

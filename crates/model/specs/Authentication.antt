@@ -19,6 +19,7 @@ use Rattle.model.specs.declared.Map.{Map}
 use Rattle.model.specs.declared.Tag.{Tag}
 use Rattle.model.specs.declared.State.{State}
 use Rattle.model.specs.declared.State.the-variants.{Active, Traceable, Authenticated, Challenged}
+use Rattle.model.specs.declared.Barred.the-variants.{Open}
 use Rattle.model.specs.declared.Effect.{Effect}
 use Rattle.model.specs.declared.Effect.the-variants.{Keep, Failed}
 use Rattle.model.specs.declared.Say as say
@@ -57,6 +58,7 @@ challengeNumber m tag s k = first (numberIf (ltb 2 k) 5) (numberIf (limitReached
 unfoldable pub challenged : Map → Tag → List ℕ → ℕ → List ℕ → Decision
 challenged m tag s k random = record {
   number = 0;
+  reason = Open;
   effect = Keep;
   say = say.the-variants.Block 0xaf;
   block = cbcEncipher (keyOf m tag s k) zeros random;
@@ -92,6 +94,7 @@ loggedIn (suc (suc k)) = Active
 unfoldable pub proved : Map → Tag → List ℕ → List ℕ → Decision
 proved m tag s f = record {
   number = 0;
+  reason = Open;
   effect = lowered m tag s;
   say = say.the-variants.Block 0x00;
   block = cbcEncipher (keyOf m tag s (keyNumber (tag .state))) zeros (rotated (proofFirst m tag s f));

@@ -2,6 +2,7 @@
 --
 --     Box                 the record and the store, as the calls before left them
 --     Call                a power-on, a selection, or a frame with its random bytes and the length of its reply buffer
+--     Report              what a call tells beside its number: the reply, and the place of the rule that stopped a WRITE
 --     step                what a call gives, and the box it leaves
 --     Stored, storedOf    document 01's stored memory: pages, counters, failed count, originality key
 --     refuses             document 01's refused: any number but 0; a failed authentication, number 8, is no such refusal here
@@ -21,6 +22,7 @@ use Rattle.forget.specs.Machine.{Given, Machine}
 use Rattle.model.specs.declared.Tag.{Tag}
 use Rattle.model.specs.Map.{mf0aes20, replySize}
 use Rattle.model.specs.Record as record′
+use Rattle.model.specs.Writing.{barredPlace}
 use Rattle.model.specs.Frame as frame′
 use Rattle.model.specs.Frame.{Said, silence}
 use Rattle.model.specs.Image.{load}
@@ -34,12 +36,25 @@ pub data Call : Type 0 where
   power select : Call
   frame : (bytes random : List ℕ) (room : ℕ) → Call
 
-unfoldable pub step : Box → Call → Given Box Said
-step b power = record { number = 0; said = silence; next = record { tag = record′.power (b .tag); store = b .store } }
-step b select = record { number = 0; said = silence; next = record { tag = record′.select (b .tag); store = b .store } }
+-- all that demand 3 compares of an answer beside its number
+pub record Report : Type 0 where
+  pub reply : Said
+  pub place : ℕ
+
+-- silence, and no WRITE that a rule stopped
+abbrev pub quiet : Report
+quiet = record { reply = silence; place = 0 }
+
+unfoldable pub step : Box → Call → Given Box Report
+step b power = record { number = 0; said = quiet; next = record { tag = record′.power (b .tag); store = b .store } }
+step b select = record { number = 0; said = quiet; next = record { tag = record′.select (b .tag); store = b .store } }
 step b (frame f random room) =
     let o = frame′.frame (b .tag) (b .store) f random room in
-    record { number = o .number; said = o .said; next = record { tag = o .tag; store = o .store } }
+    record {
+      number = o .number;
+      said = record { reply = o .said; place = barredPlace (o .reason) };
+      next = record { tag = o .tag; store = o .store };
+    }
 
 -- document 01's stored memory
 pub record Stored : Type 0 where
@@ -71,10 +86,10 @@ abbrev pub tagMachine : Machine
 tagMachine = record {
   Call = Call;
   State = Box;
-  Said = Said;
+  Said = Report;
   Stored = Stored;
   step = step;
-  silence = silence;
+  silence = quiet;
   stored = storedOf;
   boundary = boundary;
   refuses = refuses;

@@ -1,11 +1,11 @@
 -- A bench case: its form, and when it is right.
 --
---     Line               a call, the number it must be answered with, and the whole reply
+--     Line               a call, the number it must be answered with, the place of the rule that stops a WRITE, and the whole reply
 --     Case               an image, calls with their answers, and what they leave
 --     playedRight c b ls the calls ls, played from the box b, are answered and leave what the case c says
 --     caseRight c        the case c, played from the loading of its image, is as it says
 --     toActive           power-on and selection, from any state to ACTIVE
---     sent, sentWith     a frame with its answer
+--     sent, sentWith     a frame with its answer         stopped    a WRITE that a rule stops
 --
 -- Cases.antt has the list of the cases. Assumes nothing.
 use mathlib.Core.List.{List, [], _∷_}
@@ -19,12 +19,13 @@ use Rattle.model.specs.Record.{zeros, stateNumber, keyNumber}
 use Rattle.model.specs.Authentication.{sameBytes}
 use Rattle.model.specs.Frame.{Said, silence, nibble, bytes}
 use Rattle.model.specs.Image.{load}
-use Rattle.model.specs.Calls.{Box, Call, power, select, frame, step, loadedBox}
+use Rattle.model.specs.Calls.{Box, Call, power, select, frame, Report, step, loadedBox}
 use Rattle.model.specs.CaseImages.{Patch, patched}
 
 pub record Line : Type 0 where
   pub call : Call
   pub number : ℕ
+  pub place : ℕ
   pub said : Said
 
 pub record Case : Type 0 where
@@ -65,8 +66,8 @@ unfoldable pub leftRight : Case → Box → Bool
 leftRight c b =
     storedRight (patched (c .image) (c .changed)) b && sameState (b .tag .state) (c .state) && sameBytes (b .tag .challenge) zeros
 
-unfoldable pub lineRight : Line → Given Box Said → Bool
-lineRight l g = eqb (g .number) (l .number) && sameSaid (g .said) (l .said)
+unfoldable pub lineRight : Line → Given Box Report → Bool
+lineRight l g = eqb (g .number) (l .number) && eqb (g .said .place) (l .place) && sameSaid (g .said .reply) (l .said)
 
 -- the calls one after another, each answered as its line says
 unfoldable pub playedRight : Case → Box → List Line → Bool
@@ -87,21 +88,25 @@ allRight (c ∷ cs) = caseRight c && allRight cs
 -- ---- calls
 
 abbrev pub powered : Line
-powered = record { call = power; number = 0; said = silence }
+powered = record { call = power; number = 0; place = 0; said = silence }
 
 abbrev pub selected : Line
-selected = record { call = select; number = 0; said = silence }
+selected = record { call = select; number = 0; place = 0; said = silence }
 
 abbrev pub toActive : List Line
 toActive = powered ∷ selected ∷ []
 
 -- a frame with the random block of a challenge, and a reply buffer of the least length
 abbrev pub sentWith : List ℕ → List ℕ → ℕ → Said → Line
-sentWith random f n s = record { call = frame f random 242; number = n; said = s }
+sentWith random f n s = record { call = frame f random 242; number = n; place = 0; said = s }
 
 -- a frame for which the random block is of no use
 abbrev pub sent : List ℕ → ℕ → Said → Line
 sent f n s = sentWith (replicate 16 0xa5) f n s
+
+-- a WRITE that is stopped by the rule at place k
+abbrev pub stopped : ℕ → List ℕ → ℕ → Said → Line
+stopped k f n s = record { call = frame f (replicate 16 0xa5) 242; number = n; place = k; said = s }
 
 abbrev pub ack : Said
 ack = nibble 0xa

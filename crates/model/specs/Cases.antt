@@ -12,7 +12,7 @@ use lib.Dec.{T}
 use Rattle.model.specs.declared.State.the-variants.{Waiting, Active}
 use Rattle.model.specs.Frame.{silence, nibble, bytes}
 use Rattle.model.specs.CaseImages.{hex, page, counter, patched, base}
-use Rattle.model.specs.CaseForm.{Case, allRight, powered, selected, toActive, sentWith, sent, ack}
+use Rattle.model.specs.CaseForm.{Case, allRight, powered, selected, toActive, sentWith, sent, stopped, ack}
 
 -- ---- from here on written by tools/cases.py
 
@@ -110,7 +110,7 @@ lockAndBlock = record {
 abbrev pub lockedPage : Case
 lockedPage = record {
   image = patched base (page 0x02 (hex 4 0x10480800) ∷ []);
-  lines = toActive ++ (sent (hex 8 0xa203_01000000_50be) 7 (nibble 0x0) ∷ []);
+  lines = toActive ++ (stopped 3 (hex 8 0xa203_01000000_50be) 7 (nibble 0x0) ∷ []);
   changed = [];
   state = Waiting;
 }
@@ -137,7 +137,7 @@ counterPastHighest = record {
 abbrev pub protectedPage : Case
 protectedPage = record {
   image = patched base (page 0x29 (hex 4 0x00000004) ∷ []);
-  lines = toActive ++ (sent (hex 8 0xa204_11223344_4463) 6 (nibble 0x0) ∷ []);
+  lines = toActive ++ (stopped 1 (hex 8 0xa204_11223344_4463) 6 (nibble 0x0) ∷ []);
   changed = [];
   state = Waiting;
 }

@@ -18,13 +18,14 @@ use Rattle.forget.specs.Machine.{Given}
 use Rattle.model.specs.declared.Tag.{Tag}
 use Rattle.model.specs.declared.State.{State}
 use Rattle.model.specs.declared.State.the-variants.{Waiting, Active}
+use Rattle.model.specs.declared.Barred.the-variants.{Open}
 use Rattle.model.specs.Map.{mf0aes20}
 use Rattle.model.specs.Settings.{authLimit}
 use Rattle.model.specs.Record.{zeros, zeroTag}
 use Rattle.model.specs.Numbers.{nibbleOf}
-use Rattle.model.specs.Frame.{Said, silence, nibble, Outcome, frame, laidOver}
+use Rattle.model.specs.Frame.{silence, nibble, Outcome, frame, laidOver}
 use Rattle.model.specs.Image.{load, save}
-use Rattle.model.specs.Calls.{Box, power, select, storedOf, step}
+use Rattle.model.specs.Calls.{Box, power, select, Report, quiet, storedOf, step}
 
 abbrev pub NumberInTable : Type 0
 NumberInTable = (tag : Tag) (s f random : List ℕ) (room : ℕ) → frame tag s f random room .number ≤ 11
@@ -51,6 +52,7 @@ pub record Unchanged (tag : Tag) (s : List ℕ) (o : Outcome) : Type 0 where
   pub record′ : o .tag ≡ tag
   pub pages : o .store ≡ s
   pub silent : o .said ≡ silence
+  pub unstopped : o .reason ≡ Open
 
 abbrev pub KeepsAll : Type 0
 KeepsAll =
@@ -58,9 +60,9 @@ KeepsAll =
     (o .number ≡ 1) ⊎ (o .number ≡ 10) → Unchanged tag s o
 
 -- answered 0 with silence, whatever the record; all that is stored is kept, and the fleeting part is the state and no challenge
-pub record Event (b : Box) (st : State) (g : Given Box Said) : Type 0 where
+pub record Event (b : Box) (st : State) (g : Given Box Report) : Type 0 where
   pub number : g .number ≡ 0
-  pub silent : g .said ≡ silence
+  pub silent : g .said ≡ quiet
   pub kept : storedOf (g .next) ≡ storedOf b
   pub state : g .next .tag .state ≡ st
   pub challenge : g .next .tag .challenge ≡ zeros

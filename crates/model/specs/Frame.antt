@@ -1,13 +1,13 @@
 -- Document 01, "What the box plays": a frame, from the record, store, frame, random block and buffer length to the number, reply, record and store.
 --
 --     misfit ..               number 10: a wrong buffer, or a record that no tag can have
---     commandNumber, commandDone    each command's own checks, and what it does where none applies
+--     commandNumber, commandReason, commandDone    each command's own checks, the rule that stops a WRITE, and what a command does where no check applies
 --     notDone ..              what a number other than 0 leaves behind
 --     commanded ..            what a command comes to
---     frameNumber ..          the number of a frame: the lowest check in document 01's order wins
---     decide ..               what a frame comes to
+--     earlierNumber ..        the checks before a command's own
+--     decide ..               what a frame comes to: the lowest check in document 01's order wins
 --     Said                    a reply with its bytes: document 01's silence, a nibble, or bytes with CRC_A
---     Outcome                 number, reply, record and store after a call
+--     Outcome                 number, reply, rule that stopped a WRITE, record and store after a call
 --     frame ..                the call
 --
 -- Assumes nothing.
@@ -26,6 +26,8 @@ use Rattle.model.specs.declared.Command.{Command}
 use Rattle.model.specs.declared.Command.the-variants.{Read, FastRead, Write, ReadCnt, IncrCnt, Authenticate, Proof, Halt}
 use Rattle.model.specs.declared.Told.{Told}
 use Rattle.model.specs.declared.Told.the-variants.{Known, Nothing}
+use Rattle.model.specs.declared.Barred.{Barred}
+use Rattle.model.specs.declared.Barred.the-variants.{Open}
 use Rattle.model.specs.declared.Effect.{Effect}
 use Rattle.model.specs.declared.Effect.the-variants.{Keep, Page, Counter, Failed}
 use Rattle.model.specs.declared.Say as say
@@ -38,7 +40,7 @@ use Rattle.model.specs.Record.{zeros, isWaiting, counter, possible}
 use Rattle.model.specs.Numbers.{numberIf, first, kept, refused, answered, acknowledged}
 use Rattle.model.specs.Telling.{damaged, told, toldNumber}
 use Rattle.model.specs.Reading.{readNumber, fastReadNumber, readWindow, fastRange, shownPages}
-use Rattle.model.specs.Writing.{writeNumber, quad, written}
+use Rattle.model.specs.Writing.{barred, writeNumber, quad, written}
 use Rattle.model.specs.Counters.{lowFirst, readCntNumber, increment, incrCntNumber}
 use Rattle.model.specs.Authentication.{raised, challengeNumber, challenged, proofNumber, proved}
 
@@ -51,11 +53,22 @@ misfit m tag s random room =
 abbrev pub data4 : List ℕ → Quad
 data4 f = quad (getD f 2 0) (getD f 3 0) (getD f 4 0) (getD f 5 0)
 
+-- request E6: why a WRITE is refused; no other command has a reason
+unfoldable pub commandReason : Command → Map → Tag → List ℕ → List ℕ → Barred
+commandReason Read m tag s f = Open
+commandReason FastRead m tag s f = Open
+commandReason Write m tag s f = barred m (tag .state) s (getD f 1 0) (data4 f)
+commandReason ReadCnt m tag s f = Open
+commandReason IncrCnt m tag s f = Open
+commandReason Authenticate m tag s f = Open
+commandReason Proof m tag s f = Open
+commandReason Halt m tag s f = Open
+
 -- numbers 5 and on
 unfoldable pub commandNumber : Command → Map → Tag → List ℕ → List ℕ → ℕ
 commandNumber Read m tag s f = readNumber m (tag .state) s (getD f 1 0)
 commandNumber FastRead m tag s f = fastReadNumber m (tag .state) s (getD f 1 0) (getD f 2 0)
-commandNumber Write m tag s f = writeNumber m (tag .state) s (getD f 1 0) (data4 f)
+commandNumber Write m tag s f = writeNumber m (getD f 1 0) (commandReason Write m tag s f)
 commandNumber ReadCnt m tag s f = readCntNumber m (tag .state) s (getD f 1 0)
 commandNumber IncrCnt m tag s f = incrCntNumber m tag s (getD f 1 0) (data4 f)
 commandNumber Authenticate m tag s f = challengeNumber m tag s (getD f 1 0)
@@ -66,6 +79,7 @@ commandNumber Halt m tag s f = numberIf (not (eqb (getD f 1 0) 0)) 5
 unfoldable pub halted : Decision
 halted = record {
   number = 0;
+  reason = Open;
   effect = Keep;
   say = say.the-variants.Silence;
   block = zeros;
@@ -85,36 +99,34 @@ commandDone Proof m tag s f random = proved m tag s f
 commandDone Halt m tag s f random = halted
 
 -- 1 and 10 change nothing; 8 raises the count where 8.6.5 says so; every other number but 0 ends the session and nothing else
-unfoldable pub notDone : Map → Tag → List ℕ → ℕ → Decision
-notDone m tag s n = cond (eqb n 1 || eqb n 10) (kept n tag) (refused n (cond (eqb n 8) (raised m tag s) Keep))
+unfoldable pub notDone : Map → Tag → List ℕ → ℕ → Barred → Decision
+notDone m tag s n b = cond (eqb n 1 || eqb n 10) (kept n tag) (refused n b (cond (eqb n 8) (raised m tag s) Keep))
 
-abbrev pub concluded : ℕ → Map → Tag → List ℕ → Decision → Decision
-concluded zero m tag s d = d
-concluded (suc n) m tag s d = notDone m tag s (suc n)
+abbrev pub concluded : ℕ → Barred → Map → Tag → List ℕ → Decision → Decision
+concluded zero b m tag s d = d
+concluded (suc n) b m tag s d = notDone m tag s (suc n) b
 
 -- what a command comes to: its own checks, and what it does where none applies
 unfoldable pub commanded : Command → Map → Tag → List ℕ → List ℕ → List ℕ → Decision
-commanded c m tag s f random = concluded (commandNumber c m tag s f) m tag s (commandDone c m tag s f random)
+commanded c m tag s f random =
+    concluded (commandNumber c m tag s f) (commandReason c m tag s f) m tag s (commandDone c m tag s f random)
 
 -- the same for what the code tells; a code that tells nothing is refused before
-abbrev pub toldCommandNumber : Told → Map → Tag → List ℕ → List ℕ → ℕ
-toldCommandNumber (Known c k) m tag s f = commandNumber c m tag s f
-toldCommandNumber Nothing m tag s f = 0
+abbrev pub toldCommanded : Told → Map → Tag → List ℕ → List ℕ → List ℕ → Decision
+toldCommanded (Known c k) m tag s f random = commanded c m tag s f random
+toldCommanded Nothing m tag s f random = halted
 
-abbrev pub toldDone : Told → Map → Tag → List ℕ → List ℕ → List ℕ → Decision
-toldDone (Known c k) m tag s f random = commandDone c m tag s f random
-toldDone Nothing m tag s f random = halted
-
--- 10, 1, 2, 3, 4 and then the command's own
-unfoldable pub frameNumber : Map → Tag → List ℕ → List ℕ → List ℕ → ℕ → ℕ
-frameNumber m tag s f random room =
+-- the checks before a command's own: 10, 1, 2, 3 and 4
+unfoldable pub earlierNumber : Map → Tag → List ℕ → List ℕ → List ℕ → ℕ → ℕ
+earlierNumber m tag s f random room =
     first (numberIf (misfit m tag s random room) 10)
     (first (numberIf (isWaiting (tag .state)) 1)
-    (first (numberIf (damaged f) 2)
-    (first (toldNumber (told (getD f 0 0)) (tag .state) (length f)) (toldCommandNumber (told (getD f 0 0)) m tag s f))))
+    (first (numberIf (damaged f) 2) (toldNumber (told (getD f 0 0)) (tag .state) (length f))))
 
+-- a frame that one of these refuses has no reason
 unfoldable pub decide : Map → Tag → List ℕ → List ℕ → List ℕ → ℕ → Decision
-decide m tag s f random room = concluded (frameNumber m tag s f random room) m tag s (toldDone (told (getD f 0 0)) m tag s f random)
+decide m tag s f random room =
+    concluded (earlierNumber m tag s f random room) Open m tag s (toldCommanded (told (getD f 0 0)) m tag s f random)
 
 -- a reply with all that it carries; silence is document 01's term for none
 pub data Said : Type 0 where
@@ -166,6 +178,7 @@ tagAfter tag d = record {
 pub record Outcome : Type 0 where
   pub number : ℕ
   pub said : Said
+  pub reason : Barred
   pub tag : Tag
   pub store : List ℕ
 
@@ -173,6 +186,7 @@ abbrev pub outcome : Map → Tag → List ℕ → Decision → Outcome
 outcome m tag s d = record {
   number = d .number;
   said = saidOf m tag s (d .block) (d .say);
+  reason = d .reason;
   tag = tagAfter tag d;
   store = storeAfter s (d .effect);
 }

@@ -15,6 +15,7 @@ pub mod Calls
 pub mod Demand3
 pub mod FieldClaims
 pub mod CallClaims
+pub mod ReasonClaims
 pub mod ImageClaims
 pub mod CaseImages
 pub mod CaseForm

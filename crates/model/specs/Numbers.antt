@@ -4,7 +4,7 @@
 --     first a b           a, or b where a is 0: the lowest check wins
 --     nibbleOf n          the NAK nibble of a number           009 Table 21, docs/DATASHEET.md
 --     kept n tag          numbers 1 and 10: nothing changed, silence
---     refused n e         every other number but 0: session ended, NAK, and the effect e
+--     refused n b e       every other number but 0: session ended, NAK, the rule b that stopped a write, and the effect e
 --     answered tag y      number 0 with the data y             acknowledged tag e    number 0 with ACK and the effect e
 --
 -- Assumes nothing.
@@ -13,6 +13,8 @@ use Prim.Native.Nat.{ℕ, zero, suc}
 use lib.Dec.{eqb}
 use Rattle.model.specs.declared.Tag.{Tag}
 use Rattle.model.specs.declared.State.the-variants.{Waiting}
+use Rattle.model.specs.declared.Barred.{Barred}
+use Rattle.model.specs.declared.Barred.the-variants.{Open}
 use Rattle.model.specs.declared.Effect.{Effect}
 use Rattle.model.specs.declared.Effect.the-variants.{Keep}
 use Rattle.model.specs.declared.Say as say
@@ -39,6 +41,7 @@ ack = 0xa
 unfoldable pub kept : ℕ → Tag → Decision
 kept n tag = record {
   number = n;
+  reason = Open;
   effect = Keep;
   say = say.the-variants.Silence;
   block = zeros;
@@ -47,9 +50,10 @@ kept n tag = record {
 }
 
 -- every number but 0, 1 and 10: document 01's "session ended", which is WAITING
-unfoldable pub refused : ℕ → Effect → Decision
-refused n e = record {
+unfoldable pub refused : ℕ → Barred → Effect → Decision
+refused n b e = record {
   number = n;
+  reason = b;
   effect = e;
   say = say.the-variants.Nibble (nibbleOf n);
   block = zeros;
@@ -61,6 +65,7 @@ refused n e = record {
 unfoldable pub answered : Tag → Say → Decision
 answered tag y = record {
   number = 0;
+  reason = Open;
   effect = Keep;
   say = y;
   block = zeros;
@@ -71,6 +76,7 @@ answered tag y = record {
 unfoldable pub acknowledged : Tag → Effect → Decision
 acknowledged tag e = record {
   number = 0;
+  reason = Open;
   effect = e;
   say = say.the-variants.Nibble ack;
   block = zeros;

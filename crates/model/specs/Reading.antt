@@ -20,9 +20,9 @@ use Rattle.model.specs.Settings.{auth0, readProtected, randomIdOn}
 use Rattle.model.specs.Record.{isActive, isAuthenticated}
 use Rattle.model.specs.Numbers.{numberIf, first}
 
--- the page is protected, or one before it: PROT protects reading, the state isn't AUTHENTICATED, and AUTH0 is at most that page
+-- page p is protected: PROT protects reading, the state isn't AUTHENTICATED, and AUTH0 is at most p
 unfoldable pub readBarred : Map → State → List ℕ → ℕ → Bool
-readBarred m st s last = readProtected m s && not (isAuthenticated st) && leb (auth0 m s) last
+readBarred m st s p = readProtected m s && not (isAuthenticated st) && leb (auth0 m s) p
 
 -- only the first page is judged
 unfoldable pub readNumber : Map → State → List ℕ → ℕ → ℕ

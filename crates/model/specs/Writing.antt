@@ -2,7 +2,7 @@
 --
 --     barred m st s p q        the rule that stops a write of q to page p, the first in document 02's order (E6)
 --     barredNumber, barredPlace   the number of each rule, and its place in that order
---     writeNumber m st s p q   5, 6 and 7 of WRITE
+--     writeNumber m p b        5, 6 and 7 of a WRITE to page p that the rule b stops
 --     freezeRows, pairFreezeRows   the freeze masks, a row for each block-lock bit
 --     frozen rows b            the bits that the block-lock bits b freeze
 --     merged keep opened old new   a byte after a write: the old bits under keep, and the new bits under opened
@@ -26,6 +26,10 @@ use Rattle.model.specs.Map.{byteOf, lastPage}
 use Rattle.model.specs.Settings.{bitSet, randomIdOn, auth0, configLocked, keyLockBit}
 use Rattle.model.specs.Record.{isActive, isAuthenticated}
 use Rattle.model.specs.Numbers.{numberIf, first}
+
+-- pages 02h to 3Bh can be written
+unfoldable pub pageBars : Map → ℕ → Bool
+pageBars m p = ltb p (m .locks) || ltb (lastPage m) p
 
 -- at or above AUTH0 and not AUTHENTICATED, whatever PROT says
 unfoldable pub auth0Bars : Map → State → List ℕ → ℕ → Bool
@@ -58,12 +62,14 @@ keyLockBars m s p =
 unfoldable pub configLockBars : Map → List ℕ → ℕ → Bool
 configLockBars m s p = (eqb p (m .cfg0) || eqb p (m .cfg1)) && configLocked m s
 
+-- the one answer of the judge of a write; a page that can't be written is 5 before any rule applies
 unfoldable pub barred : Map → State → List ℕ → ℕ → Quad → Barred
 barred m st s p q =
-    cond (auth0Bars m st s p) Auth0
+    cond (pageBars m p) Open
+    (cond (auth0Bars m st s p) Auth0
     (cond (randomIdBars m st s p q) RandomId
     (cond (ownLockBars m s p) OwnLock
-    (cond (pairLockBars m s p) PairLock (cond (keyLockBars m s p) KeyLock (cond (configLockBars m s p) ConfigLock Open)))))
+    (cond (pairLockBars m s p) PairLock (cond (keyLockBars m s p) KeyLock (cond (configLockBars m s p) ConfigLock Open))))))
 
 abbrev pub barredNumber : Barred → ℕ
 barredNumber Open = 0
@@ -74,7 +80,7 @@ barredNumber PairLock = 7
 barredNumber KeyLock = 7
 barredNumber ConfigLock = 7
 
--- the place is for request E6: no call hands it back yet
+-- the place in document 02's order, 0 where no rule stops a write
 abbrev pub barredPlace : Barred → ℕ
 barredPlace Open = 0
 barredPlace Auth0 = 1
@@ -84,9 +90,9 @@ barredPlace PairLock = 4
 barredPlace KeyLock = 5
 barredPlace ConfigLock = 6
 
--- pages 02h to 3Bh can be written
-unfoldable pub writeNumber : Map → State → List ℕ → ℕ → Quad → ℕ
-writeNumber m st s p q = first (numberIf (ltb p (m .locks) || ltb (lastPage m) p) 5) (barredNumber (barred m st s p q))
+-- 6 and 7 are the rule's
+unfoldable pub writeNumber : Map → ℕ → Barred → ℕ
+writeNumber m p b = first (numberIf (pageBars m p) 5) (barredNumber b)
 
 -- document 01's freeze masks: block-lock bits 0, 1 and 2 of lock byte 0, and what they freeze in lock bytes 0 and 1
 unfoldable pub freezeRows : List Masks

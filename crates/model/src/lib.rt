@@ -94,7 +94,7 @@ pub enum Effect {
     Failed(u16),
 }
 
-// What a frame says, before the bytes are read out: the four pages from one on, the pages from one to another, a counter, or a byte and a block.
+// What a frame says, before the bytes are read out: the four pages of READ from one on, the pages from one to another, a counter, or a byte and a block.
 pub enum Say {
     Silence,
     Nibble(u8),
@@ -104,9 +104,11 @@ pub enum Say {
     Block(u8),
 }
 
-// What a frame comes to: its number, what it stores, what it says with the block for `Say::Block`, and the fleeting part it leaves.
+// What a frame comes to: its number, the rule that stopped a write, what it stores, what it says with the block for `Say::Block`, and the fleeting part
+// it leaves.
 pub struct Decision {
     pub number: u8,
+    pub reason: Barred,
     pub effect: Effect,
     pub say: Say,
     pub block: [u8; 16],

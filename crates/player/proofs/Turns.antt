@@ -16,6 +16,7 @@ use Rattle.octets.proofs.Laid.{take-sets}
 use Rattle.crc.specs.CrcA.{withCrc}
 use Rattle.model.specs.declared.Tag.{Tag}
 use Rattle.model.specs.Map.{mf0aes20, replySize}
+use Rattle.model.specs.Writing.{barredPlace}
 use Rattle.model.specs.Frame.{Said, silence, nibble, bytes, frame, replyOf, laidOver}
 use Rattle.model.specs.Calls.{step}
 use Rattle.events.specs.declared.Answer.{Answer}
@@ -42,14 +43,14 @@ least = refl
 pub record Back (a : Answer) (reply′ s′ : List ℕ) (t : Turn) : Type 0 where
   pub tag : a .tag ≡ t .box .tag
   pub store : s′ ≡ t .box .store
-  pub text : answerText (a .number) (heardData (a .reply) reply′) ≡ t .text
+  pub text : answerText (a .number) (barredPlace (a .reason)) (heardData (a .reply) reply′) ≡ t .text
 
 pub sent-turn : (tag : Tag) (s line : List ℕ) (n count : ℕ) (f random reply s′ reply′ : List ℕ) (a : Answer)
     → f ≡ withCrc (frameBytes line n) → random ≡ randomOf count → length reply ≡ 242 → let o = frame tag s f random (length reply) in
-    a .number ≡ o .number → a .reply ≡ replyOf (o .said) → a .tag ≡ o .tag → s′ ≡ o .store → reply′ ≡ laidOver reply (o .said)
+    a .number ≡ o .number → a .reply ≡ replyOf (o .said) → a .reason ≡ o .reason → a .tag ≡ o .tag → s′ ≡ o .store → reply′ ≡ laidOver reply (o .said)
     → Back a reply′ s′ (turnOf (Frame n) (record { tag = tag; store = s }) count line)
 unfolding step
-sent-turn tag s line n count f random reply s′ reply′ a ef er el hn hr ht hs hb =
+sent-turn tag s line n count f random reply s′ reply′ a ef er el hn hr hw ht hs hb =
     let o = frame tag s f random (length reply) in
     let asked : o ≡ frame tag s (withCrc (frameBytes line n)) (randomOf count) (replySize mf0aes20) =
     λ i. frame tag s (ef i) (er i) ((el ∙ sym least) i) in
@@ -57,7 +58,9 @@ sent-turn tag s line n count f random reply s′ reply′ a ef er el hn hr ht hs
     record {
       tag = ht ∙ (λ i. asked i .tag);
       store = hs ∙ (λ i. asked i .store);
-      text = (λ i. answerText (hn i) (said i)) ∙ (λ i. answerText (asked i .number) (dataOf (asked i .said)));
+      text =
+          (λ i. answerText (hn i) (barredPlace (hw i)) (said i))
+          ∙ (λ i. answerText (asked i .number) (barredPlace (asked i .reason)) (dataOf (asked i .said)));
     }
 
 -- how many bytes a line's frame has

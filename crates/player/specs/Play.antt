@@ -48,7 +48,7 @@ pub record Turn : Type 0 where
 
 -- a call made in the box b
 abbrev pub made : Box → Call → Turn
-made b c = let g = step b c in record { text = answerText (g .number) (dataOf (g .said)); box = g .next; bad = false }
+made b c = let g = step b c in record { text = answerText (g .number) (g .said .place) (dataOf (g .said .reply)); box = g .next; bad = false }
 
 -- what a line comes to, by what it asks; the program adds the CRC_A
 abbrev pub turnOf : Line → Box → ℕ → List ℕ → Turn

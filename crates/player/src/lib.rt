@@ -3,14 +3,16 @@ use answers::answer::answer;
 use events::Answer;
 use model::Reply;
 use model::Tag;
+use numbers::barred_place;
 use script::line;
 use script::line::Line;
 ghost use mathlib.Core.Path.{_≡_};
 ghost use mathlib.Core.Bool.{true, false};
 ghost use mathlib.Core.List.{[]};
-ghost use Prim.Native.Nat.{_-_, _≤_};
+ghost use Prim.Native.Nat.{_-_, _≤_, _<_};
 ghost use lib.ListN.{length, take};
 ghost use Rattle.crc.specs.CrcA.{withCrc};
+ghost use Rattle.model.specs.Writing.{barredPlace};
 ghost use Rattle.script.specs.Line.{frameBytes};
 ghost use Rattle.answers.specs.Answer.{answerText, WrittenAt};
 ghost use Rattle.script.specs.declared.line.Line.the-variants.{Frame};
@@ -70,15 +72,16 @@ fn data_part(reply: &[u8], n: usize) -> &[u8]
 }
 
 // The text of an answer to a frame.
-fn spoken(out: &mut [u8], number: u8, r: Reply, reply: &[u8]) -> usize
+fn spoken(out: &mut [u8], number: u8, place: u8, r: Reply, reply: &[u8]) -> usize
+    requires { ⌜ place < 10 ⌝ }
     requires { ⌜ length (now reply) ≤ 242 ⌝ }
-    ensures { λ x. ⌜ WrittenAt (now (out .entry)) (now (out .exit)) 0 x (answerText number (heardData r (now (reply .entry)))) ⌝ }
-    ensures { λ x. ⌜ x ≤ 488 ⌝ }
+    ensures { λ x. ⌜ WrittenAt (now (out .entry)) (now (out .exit)) 0 x (answerText number place (heardData r (now (reply .entry)))) ⌝ }
+    ensures { λ x. ⌜ x ≤ 490 ⌝ }
 {
     match r {
-        Reply::Bytes(n) => answer(out, number, data_part(reply, n)),
-        Reply::Nibble(_) => answer(out, number, b""),
-        Reply::Silence => answer(out, number, b""),
+        Reply::Bytes(n) => answer(out, number, place, data_part(reply, n)),
+        Reply::Nibble(_) => answer(out, number, place, b""),
+        Reply::Silence => answer(out, number, place, b""),
     }
 }
 
@@ -86,11 +89,12 @@ fn spoken(out: &mut [u8], number: u8, r: Reply, reply: &[u8]) -> usize
 fn event_turn(a: Answer, out: &mut [u8]) -> Turn
     ensures { λ r. ⌜ r .tag ≡ a .tag ⌝ }
     ensures { λ r. ⌜ r .bad ≡ false ⌝ }
-    ensures { λ r. ⌜ r .end ≤ 488 ⌝ }
-    ensures { λ r. ⌜ WrittenAt (now (out .entry)) (now (out .exit)) 0 (r .end) (answerText (a .number) []) ⌝ }
+    ensures { λ r. ⌜ r .end ≤ 490 ⌝ }
+    ensures { λ r. ⌜ WrittenAt (now (out .entry)) (now (out .exit)) 0 (r .end) (answerText (a .number) (barredPlace (a .reason)) []) ⌝ }
 {
     let next = a.tag;
-    let end = answer(out, a.number, b"");
+    let reason = a.reason;
+    let end = answer(out, a.number, barred_place(reason), b"");
     Turn {
         tag: next,
         end,
@@ -103,7 +107,7 @@ fn sent(tag: Tag, store: &mut [u8], line: &[u8], n: u8, count: u64, out: &mut [u
     requires { ⌜ n ≤ 62 ⌝ }
     ensures { λ r. ⌜ r .tag ≡ turnOf (Frame n) (record { tag = tag; store = now (store .entry) }) count (now (line .entry)) .box .tag ⌝ }
     ensures { λ r. ⌜ r .bad ≡ false ⌝ }
-    ensures { λ r. ⌜ r .end ≤ 488 ⌝ }
+    ensures { λ r. ⌜ r .end ≤ 490 ⌝ }
     ensures { λ r. ⌜ WrittenAt (now (out .entry)) (now (out .exit)) 0 (r .end) (turnOf (Frame n) (record { tag = tag; store = now (store .entry) }) count (now (line .entry)) .text) ⌝ }
     ensures { λ _. ⌜ now (store .exit) ≡ turnOf (Frame n) (record { tag = tag; store = now (store .entry) }) count (now (line .entry)) .box .store ⌝ }
 {
@@ -114,7 +118,8 @@ fn sent(tag: Tag, store: &mut [u8], line: &[u8], n: u8, count: u64, out: &mut [u
     let a = tag::frame(tag, store, &space[..end], &random, &mut reply);
     let next = a.tag;
     let r = a.reply;
-    let last = spoken(out, a.number, r, &reply);
+    let reason = a.reason;
+    let last = spoken(out, a.number, barred_place(reason), r, &reply);
     Turn {
         tag: next,
         end: last,
@@ -133,7 +138,7 @@ pub fn next_count(count: u64) -> u64
 pub fn play(tag: Tag, store: &mut [u8], line: &[u8], count: u64, out: &mut [u8]) -> Turn
     ensures { λ r. ⌜ r .tag ≡ turn (record { tag = tag; store = now (store .entry) }) count (now (line .entry)) .box .tag ⌝ }
     ensures { λ r. ⌜ r .bad ≡ turn (record { tag = tag; store = now (store .entry) }) count (now (line .entry)) .bad ⌝ }
-    ensures { λ r. ⌜ r .end ≤ 488 ⌝ }
+    ensures { λ r. ⌜ r .end ≤ 490 ⌝ }
     ensures { λ r. ⌜ WrittenAt (now (out .entry)) (now (out .exit)) 0 (r .end) (turn (record { tag = tag; store = now (store .entry) }) count (now (line .entry)) .text) ⌝ }
     ensures { λ _. ⌜ now (store .exit) ≡ turn (record { tag = tag; store = now (store .entry) }) count (now (line .entry)) .box .store ⌝ }
 {

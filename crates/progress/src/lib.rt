@@ -15,8 +15,8 @@ pub struct Progress {
     pub on: bool,
 }
 
-// The text of a line has at most 488 bytes.
-const ROOM: usize = 65048;
+// The text of a line has at most 490 bytes.
+const ROOM: usize = 65046;
 
 pub fn beginning(tag: Tag) -> Progress
     ensures { λ r. ⌜ r .at ≡ 0 ⌝ }
@@ -75,7 +75,7 @@ fn with_room(p: Progress, out: &[u8]) -> Progress
     requires { ⌜ p .at ≤ length (now out) ⌝ }
     ensures { λ r. ⌜ r .tag ≡ p .tag ⌝ }
     ensures { λ r. ⌜ r .count ≡ p .count ⌝ }
-    ensures { λ r. ⌜ r .at ≤ 65048 ⌝ }
+    ensures { λ r. ⌜ r .at ≤ 65046 ⌝ }
 {
     if p.at <= ROOM {
         return p;

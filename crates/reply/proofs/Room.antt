@@ -7,17 +7,17 @@
 --
 -- A block behind a byte is 19 bytes with its CRC_A, so these laws ask for a map of five pages or more.
 -- Assumes nothing.
-use mathlib.Core.Path.{_≡_, refl}
-use mathlib.Core.Bool.{Bool, true, false, _||_, cond}
+use mathlib.Core.Path.{_≡_}
+use mathlib.Core.Bool.{_||_}
 use mathlib.Core.List.{List}
-use Prim.Native.Nat.{ℕ, zero, suc, _+_, _≤_}
+use Prim.Native.Nat.{ℕ, _+_, _≤_}
 use native.Mathlib.Omega.{arith}
 use borrow.Author.Tests.{ltb-false}
-use lib.Dec.{ltb, eqb}
+use lib.Dec.{ltb}
 use lib.ListN.{getD}
 use Rattle.model.specs.declared.Map.{Map}
 use Rattle.model.specs.declared.Tag.{Tag}
-use Rattle.model.specs.declared.Effect.{Effect}
+use Rattle.model.specs.declared.Decision.{Decision}
 use Rattle.model.specs.declared.Say.the-variants.{Window, Range, Count, Block}
 use Rattle.model.specs.declared.Command.{Command}
 use Rattle.model.specs.declared.Command.the-variants.{Read, FastRead, Write, ReadCnt, IncrCnt, Authenticate, Proof, Halt}
@@ -25,11 +25,10 @@ use Rattle.model.specs.Map.{mf0aes20, replySize, lastPage}
 use Rattle.model.specs.Numbers.{numberIf, kept, refused, answered, acknowledged}
 use Rattle.model.specs.Reading.{readBarred, fastReadNumber}
 use Rattle.model.specs.Authentication.{challenged, proved}
-use Rattle.model.specs.Frame.{commandNumber, commandDone, halted, frameNumber, notDone, decide}
+use Rattle.model.specs.Frame.{commandNumber, commandDone, halted, decide}
 use Rattle.bits.proofs.Neither.{neither-right}
-use Rattle.model.proofs.Numbers.{decide-not}
 use Rattle.model.proofs.Misfit.{fits-room}
-use Rattle.model.proofs.Carried.{first-zero, numberIf-zero, carried}
+use Rattle.model.proofs.Carried.{first-zero, numberIf-zero, decide-is}
 use Rattle.reply.specs.Speaking.{saidSize}
 
 module _ (m : Map) (room : ℕ) (big : replySize m ≤ room) where
@@ -63,23 +62,14 @@ module _ (m : Map) (tag : Tag) (s f random : List ℕ) (room : ℕ) (five : 5 �
   done-fits Proof own big = block-fits m room big 0x00 five
   done-fits Halt own big = omega arith
 
-  -- a frame that isn't says nothing or a nibble
-  not-fits : (t : Bool) (n : ℕ) (e : Effect) → saidSize (cond t (kept n tag) (refused n e) .say) ≤ room
-  unfolding kept refused
-  not-fits true n e = omega arith
-  not-fits false n e = omega arith
-
-  by-number : (n : ℕ) → frameNumber m tag s f random room ≡ n → saidSize (decide m tag s f random room .say) ≤ room
-  unfolding notDone
-  by-number zero h =
-      let c = carried m tag s f random room h in
-      rw (c .decided) (done-fits (c .command) (c .own) (fits-room m tag s random room (c .fits)))
-  by-number (suc n) h =
-      rw (decide-not m tag s f random room (λ z. omega arith))
-      (not-fits (eqb (frameNumber m tag s f random room) 1 || eqb (frameNumber m tag s f random room) 10) _ _)
-
+  -- and any other frame says nothing or a nibble
   pub decided-fits : saidSize (decide m tag s f random room .say) ≤ room
-  decided-fits = by-number (frameNumber m tag s f random room) refl
+  unfolding kept refused
+  decided-fits =
+      decide-is m tag s f random room (λ (d : Decision). saidSize (d .say) ≤ room)
+      (λ c. done-fits (c .command) (c .own) (fits-room m tag s random room (c .fits)))
+      (λ n. omega arith)
+      (λ n b e. omega arith)
 
 five : 5 ≤ mf0aes20 .pages
 unfolding mf0aes20

@@ -6,13 +6,14 @@
 --   EventsKeep        demand 1 of `power` and `select`
 --   FramesNumbered, FramesRefused, FramesKeep
 --                     demand 1 of `frame`: its numbers; what a refusal leaves; 1 and 10 change nothing
+--   FramesSayWhy      request E6: why a WRITE was refused
 --
 -- Stretch, struck out, silence and stored memory are document 01's terms; forget/specs and model/specs/Calls.antt define them. Each statement stands above its proof: a statement about contracts can't stand in specs/, which sees none. Assumes nothing.
 use mathlib.Core.Path.{_≡_, refl, sym, ap, subst, _∙_}
 use mathlib.Core.Logic.{_⊎_}
 use mathlib.Core.List.{List}
 use Prim.Native.Nat.{ℕ, _≤_}
-use lib.ListN.{length}
+use lib.ListN.{length, getD}
 use contract.Lifetimes.{Lfts}
 use denote.Ref.{now}
 use Rattle.forget.specs.Machine.{Entry, Every, log, end}
@@ -21,13 +22,19 @@ use Rattle.forget.specs.Striking.{clean, staying, behindOthers, remaining}
 use Rattle.model.specs.declared.Tag.{Tag}
 use Rattle.model.specs.declared.State.the-variants.{Waiting, Active}
 use Rattle.model.specs.declared.Reply.the-variants.{Silence, Nibble}
+use Rattle.model.specs.declared.Barred.the-variants.{Open}
+use Rattle.model.specs.declared.Command.the-variants.{Write}
 use Rattle.model.specs.Record.{zeroTag}
 use Rattle.model.specs.Numbers.{nibbleOf}
-use Rattle.model.specs.Frame.{silence, Outcome, frame, replyOf, laidOver}
+use Rattle.model.specs.Telling.{codeOf}
+use Rattle.model.specs.Writing.{barredPlace}
+use Rattle.model.specs.Frame.{Outcome, frame, replyOf, laidOver}
 use Rattle.model.specs.Image.{load}
 use Rattle.model.specs.Demand1.{Ended, Event}
-use Rattle.model.specs.Calls.{Box, Bytes, Fit, storedOf, tagMachine, loadedBox}
+use Rattle.model.specs.ReasonClaims.{WriteStopped}
+use Rattle.model.specs.Calls.{Box, quiet, Bytes, Fit, storedOf, tagMachine, loadedBox}
 use Rattle.model.proofs.Demand1.{number-in-table, refusal-ends, keeps-all, power-keeps-stored, select-keeps-stored, load-refused, save-refused}
+use Rattle.model.proofs.Reasons.{first-rule-told, no-other-reason}
 use Rattle.model.proofs.Image.{load-done}
 use Rattle.model.proofs.Claims.{damage-forgotten}
 use Rattle.events.specs.declared.Answer.{Answer}
@@ -40,10 +47,10 @@ use Rattle.runs.proofs.Steps.{loaded-box, outcomeOf, outcome-frame, got
 
 -- the calls ms were made from b, and then the calls again from the same b
 pub record Forgotten (b : Box) (ms again : List Made) : Type 0 where
-  -- each call that stays gets the same number and the same reply, and leaves the same memory
+  -- each call that stays gets the same number, the same reply and the same reason, and leaves the same memory
   pub same : logOf b again ≡ staying tagMachine clean (logOf b ms)
-  -- each call struck out behind another got silence
-  pub silent : Every (λ (e : Entry tagMachine). e .said ≡ silence) (behindOthers tagMachine clean (logOf b ms))
+  -- each call struck out behind another got silence, and no reason
+  pub silent : Every (λ (e : Entry tagMachine). e .said ≡ quiet) (behindOthers tagMachine clean (logOf b ms))
   -- the stored memory ends equal
   pub ended : storedOf (last b again) ≡ storedOf (last b ms)
 
@@ -75,7 +82,7 @@ module _ (b : Box) (ms again : List Made) (turn : InTurn b ms) (turn′ : InTurn
     same =
         log-run b again turn′ ∙ ap (log tagMachine b) stays ∙ f .again
         ∙ ap (λ (es : List (Entry tagMachine)). staying tagMachine clean es) (sym run);
-    silent = subst (λ (es : List (Entry tagMachine)). Every (λ (e : Entry tagMachine). e .said ≡ silence) (behindOthers tagMachine clean es)) (sym run) (f .silent);
+    silent = subst (λ (es : List (Entry tagMachine)). Every (λ (e : Entry tagMachine). e .said ≡ quiet) (behindOthers tagMachine clean es)) (sym run) (f .silent);
     ended =
         ap storedOf (last-run b again turn′ ∙ ap (end tagMachine b) stays) ∙ f .ended ∙ ap storedOf (sym (last-run b ms turn));
   }
@@ -138,7 +145,7 @@ module _ (κs : Lfts 4) (tag : Tag) (store f random reply : Slice) (r : Answer) 
   whole : back ≡ o
   whole =
       outcome-frame tag (now store) (now f) (now random) (now reply) r (now store′) (now reply′)
-      (met .0) (met .1 .0) (met .1 .1 .0) (met .1 .1 .1 .0) (met .1 .1 .1 .1)
+      (met .0) (met .1 .0) (met .1 .1 .0) (met .1 .1 .1 .0) (met .1 .1 .1 .1 .0) (met .1 .1 .1 .1 .1)
 
   abbrev pub FramesNumbered : Type 0
   FramesNumbered = r .number ≤ 11
@@ -157,20 +164,36 @@ module _ (κs : Lfts 4) (tag : Tag) (store f random reply : Slice) (r : Answer) 
       let e = refusal-ends tag (now store) (now f) (now random) (length (now reply)) (λ z. n0 (met .0 ∙ z)) (λ z. n1 (met .0 ∙ z)) (λ z. n10 (met .0 ∙ z)) in (
         subst (Ended tag (now store)) (sym whole) e,
         met .1 .0 ∙ ap replyOf (e .nak) ∙ ap (λ (n : ℕ). Nibble (nibbleOf n)) (sym (met .0)),
-        met .1 .1 .1 .1 ∙ e .unwritten (now reply),
+        met .1 .1 .1 .1 .1 ∙ e .unwritten (now reply),
       )
 
-  -- 1 and 10: record, store and reply buffer as they came, with silence
+  -- 1 and 10: record, store and reply buffer as they came, with silence and no reason
   abbrev pub FramesKeep : Type 0
   FramesKeep =
       (r .number ≡ 1) ⊎ (r .number ≡ 10)
-      → (r .tag ≡ tag) × (now store′ ≡ now store) × (r .reply ≡ Silence) × (now reply′ ≡ now reply)
+      → (r .tag ≡ tag) × (now store′ ≡ now store) × (r .reply ≡ Silence) × (now reply′ ≡ now reply) × (r .reason ≡ Open)
 
   pub frames-keep : FramesKeep
   frames-keep n =
       let u = keeps-all tag (now store) (now f) (now random) (length (now reply)) (subst (λ (k : ℕ). (k ≡ 1) ⊎ (k ≡ 10)) (met .0) n) in (
-        met .1 .1 .0 ∙ u .record′,
-        met .1 .1 .1 .0 ∙ u .pages,
+        met .1 .1 .1 .0 ∙ u .record′,
+        met .1 .1 .1 .1 .0 ∙ u .pages,
         met .1 .0 ∙ ap replyOf (u .silent),
-        met .1 .1 .1 .1 ∙ ap (laidOver (now reply)) (u .silent),
+        met .1 .1 .1 .1 .1 ∙ ap (laidOver (now reply)) (u .silent),
+        met .1 .1 .0 ∙ u .unstopped,
       )
+
+  -- request E6: a WRITE answered 6 or 7 says the first rule that applies, and every other answer none
+  abbrev pub FramesSayWhy : Type 0
+  FramesSayWhy =
+      (getD (now f) 0 0 ≡ codeOf Write → (r .number ≡ 6) ⊎ (r .number ≡ 7) → WriteStopped tag (now store) (now f) back)
+      × ((getD (now f) 0 0 ≡ codeOf Write → ⊥) ⊎ ((r .number ≡ 6 → ⊥) × (r .number ≡ 7 → ⊥)) → barredPlace (r .reason) ≡ 0)
+
+  pub frames-say-why : FramesSayWhy
+  frames-say-why = (
+    λ code n. subst (WriteStopped tag (now store) (now f)) (sym whole)
+        (first-rule-told tag (now store) (now f) (now random) (length (now reply)) code (subst (λ (k : ℕ). (k ≡ 6) ⊎ (k ≡ 7)) (met .0) n)),
+    λ other. ap barredPlace (met .1 .1 .0)
+        ∙ no-other-reason tag (now store) (now f) (now random) (length (now reply))
+        (subst (λ (k : ℕ). (getD (now f) 0 0 ≡ codeOf Write → ⊥) ⊎ ((k ≡ 6 → ⊥) × (k ≡ 7 → ⊥))) (met .0) other),
+  )

@@ -5,11 +5,9 @@
 --
 -- Assumes nothing.
 use mathlib.Core.Path.{_≡_, refl, ap, _∙_}
-use mathlib.Core.Bool.{Bool, true, false, _||_, cond}
 use mathlib.Core.List.{List}
-use Prim.Native.Nat.{ℕ, zero, suc, _+_, _-_, _*_, _≤_}
+use Prim.Native.Nat.{ℕ, suc, _+_, _-_, _*_, _≤_}
 use native.Mathlib.Omega.{arith}
-use lib.Dec.{eqb}
 use lib.ListN.{length, getD}
 use Rattle.octets.proofs.Laid.{take-sets}
 use Rattle.crc.specs.CrcA.{withCrc}
@@ -20,16 +18,14 @@ use Rattle.fips197.specs.Cbc.{cbcEncipher}
 use Rattle.model.specs.declared.Map.{Map}
 use Rattle.model.specs.declared.Tag.{Tag}
 use Rattle.model.specs.declared.Decision.{Decision}
-use Rattle.model.specs.declared.Effect.{Effect}
 use Rattle.model.specs.declared.Command.{Command}
 use Rattle.model.specs.declared.Command.the-variants.{Read, FastRead, Write, ReadCnt, IncrCnt, Authenticate, Proof, Halt}
 use Rattle.model.specs.Map.{mf0aes20}
 use Rattle.model.specs.Numbers.{kept, refused, answered, acknowledged}
 use Rattle.model.specs.Reading.{fastRange}
 use Rattle.model.specs.Authentication.{challenged, proved}
-use Rattle.model.specs.Frame.{commandDone, halted, frameNumber, notDone, decide, Said, silence, nibble, bytes, saidOf, frame, replyOf, laidOver}
-use Rattle.model.proofs.Numbers.{decide-not}
-use Rattle.model.proofs.Carried.{carried}
+use Rattle.model.specs.Frame.{commandDone, halted, decide, Said, silence, nibble, bytes, saidOf, frame, replyOf, laidOver}
+use Rattle.model.proofs.Carried.{decide-is}
 use Rattle.reply.specs.Speaking.{saidSize}
 use Rattle.shown.proofs.Shown.{shown-length, window-length}
 use Rattle.reply.proofs.Room.{ours-fits}
@@ -67,24 +63,18 @@ module _ (m : Map) (tag : Tag) (s f random : List ℕ) (room : ℕ) where
   done-size Proof = sealed-size _ 17 (ap suc (cbc-length _ _ _))
   done-size Halt = refl
 
-  -- a frame that isn't says nothing or a nibble
-  not-size : (t : Bool) (n : ℕ) (e : Effect) → let d = cond t (kept n tag) (refused n e) in inBuffer (saidBy m tag s d) ≡ saidSize (d .say)
+  -- and any other frame says nothing or a nibble
+  said-size : let d = decide m tag s f random room in inBuffer (saidBy m tag s d) ≡ saidSize (d .say)
   unfolding kept refused saidOf
-  not-size true n e = refl
-  not-size false n e = refl
-
-  by-number : (n : ℕ) → frameNumber m tag s f random room ≡ n
-      → let d = decide m tag s f random room in inBuffer (saidBy m tag s d) ≡ saidSize (d .say)
-  unfolding notDone
-  by-number zero h = let c = carried m tag s f random room h in rw (c .decided) (done-size (c .command))
-  by-number (suc n) h =
-      rw (decide-not m tag s f random room (λ z. omega arith))
-      (not-size (eqb (frameNumber m tag s f random room) 1 || eqb (frameNumber m tag s f random room) 10) _ _)
+  said-size =
+      decide-is m tag s f random room (λ (d : Decision). inBuffer (saidBy m tag s d) ≡ saidSize (d .say)) (λ c. done-size (c .command))
+      (λ n. refl)
+      (λ n b e. refl)
 
 pub said-fits : (tag : Tag) (s f random : List ℕ) (room : ℕ) → inBuffer (frame tag s f random room .said) ≤ room
 unfolding frame
 said-fits tag s f random room =
-    omega (arith, by-number mf0aes20 tag s f random room (frameNumber mf0aes20 tag s f random room) refl, ours-fits tag s f random room)
+    omega (arith, said-size mf0aes20 tag s f random room, ours-fits tag s f random room)
 
 pub heard-said : (buffer : List ℕ) (x : Said) → inBuffer x ≤ length buffer → heard (replyOf x) (laidOver buffer x) ≡ x
 heard-said buffer silence h = refl

@@ -4,7 +4,7 @@
 --   Saving         the same for a call of `save`
 --   Made           the same for a call of `power`, `select` or `frame`
 --   callOf m       the call, as demand 3's machine is given it
---   got b m        what came back: number, reply, and the record and store that are left
+--   got b m        what came back: number, reply, reason, and the record and store that are left
 --   Handed b m     the call was given the record and the store b
 --   InTurn b ms    each call of ms was given the record, and the store where it takes one, as the calls before it left them
 --   logOf, last    the log of the calls, by what came back, and the record and store that are left in the end
@@ -19,8 +19,8 @@ use contract.Lifetimes.{Lfts}
 use denote.Ref.{RefT, now}
 use Rattle.forget.specs.Machine.{Given, Entry, entry}
 use Rattle.model.specs.declared.Tag.{Tag}
-use Rattle.model.specs.Frame.{Said}
-use Rattle.model.specs.Calls.{Box, Call, power, select, frame, tagMachine}
+use Rattle.model.specs.Writing.{barredPlace}
+use Rattle.model.specs.Calls.{Box, Call, power, select, frame, Report, tagMachine}
 use Rattle.image.specs.declared.Loading as loading
 use Rattle.events.specs.declared.Answer.{Answer}
 use Rattle.tag.proofs.power.Reads as power-call
@@ -71,12 +71,16 @@ callOf (powered tag r h) = power
 callOf (selected tag r h) = select
 callOf (framed κs tag store f random reply r store′ reply′ h) = frame (now f) (now random) (length (now reply))
 
+-- the reply, and the place of the rule that stopped a WRITE
+abbrev pub reportOf : Answer → List ℕ → Report
+reportOf r buffer = record { reply = heard (r .reply) buffer; place = barredPlace (r .reason) }
+
 -- `power` and `select` take no store, so it stays as it is, and no reply buffer
-abbrev pub got : Box → Made → Given Box Said
-got b (powered tag r h) = record { number = r .number; said = heard (r .reply) []; next = record { tag = r .tag; store = b .store } }
-got b (selected tag r h) = record { number = r .number; said = heard (r .reply) []; next = record { tag = r .tag; store = b .store } }
+abbrev pub got : Box → Made → Given Box Report
+got b (powered tag r h) = record { number = r .number; said = reportOf r []; next = record { tag = r .tag; store = b .store } }
+got b (selected tag r h) = record { number = r .number; said = reportOf r []; next = record { tag = r .tag; store = b .store } }
 got b (framed κs tag store f random reply r store′ reply′ h) =
-    record { number = r .number; said = heard (r .reply) (now reply′); next = record { tag = r .tag; store = now store′ } }
+    record { number = r .number; said = reportOf r (now reply′); next = record { tag = r .tag; store = now store′ } }
 
 abbrev pub Handed : Box → Made → Type 0
 Handed b (powered tag r h) = tag ≡ b .tag

@@ -2,18 +2,18 @@
 --
 --   nibble-small       a nibble that is said is below 16
 --   number-read        the number of the answer of a frame is the frame's
---   reply-read         and so is the reply
+--   reason-read, reply-read    and so are the reason and the reply
 --
 -- Assumes nothing.
 use mathlib.Core.Path.{_≡_, refl}
 use mathlib.Core.List.{List}
 use mathlib.Core.Bool.{Bool, true, false, _||_, cond}
-use Prim.Native.Nat.{ℕ, zero, suc, _<_}
+use Prim.Native.Nat.{ℕ, _<_}
 use native.Mathlib.Omega.{arith}
 use lib.Dec.{eqb}
 use Rattle.model.specs.declared.Map.{Map}
 use Rattle.model.specs.declared.Tag.{Tag}
-use Rattle.model.specs.declared.Effect.{Effect}
+use Rattle.model.specs.declared.Decision.{Decision}
 use Rattle.model.specs.declared.Say.{Say}
 use Rattle.model.specs.declared.Say.the-variants.{Silence, Nibble, Window, Range, Count, Block}
 use Rattle.model.specs.declared.Reply as reply
@@ -21,12 +21,13 @@ use Rattle.model.specs.declared.Command.{Command}
 use Rattle.model.specs.declared.Command.the-variants.{Read, FastRead, Write, ReadCnt, IncrCnt, Authenticate, Proof, Halt}
 use Rattle.model.specs.Map.{mf0aes20}
 use Rattle.model.specs.Numbers.{nibbleOf, kept, refused, answered, acknowledged}
+use Rattle.model.specs.Writing.{barredPlace}
 use Rattle.model.specs.Authentication.{challenged, proved}
-use Rattle.model.specs.Frame.{commandDone, halted, frameNumber, notDone, decide, saidOf, Outcome, frame, replyOf}
-use Rattle.model.proofs.Numbers.{decide-not}
-use Rattle.model.proofs.Carried.{carried}
+use Rattle.model.specs.Frame.{commandDone, halted, decide, saidOf, Outcome, frame, replyOf}
+use Rattle.model.proofs.Carried.{decide-is}
 use Rattle.model.proofs.Demand1.{number-in-table}
-use Rattle.c_answer.specs.Answer.{answerOf, numberIn, replyIn}
+use Rattle.model.proofs.Reasons.{place-small}
+use Rattle.c_answer.specs.Answer.{answerOf, numberIn, reasonIn, replyIn}
 use Rattle.c_answer.specs.Claims.{nibbleOf as nibbleSaid}
 use Rattle.c_answer.proofs.Told.{answer-told}
 use Rattle.tag_c.proofs.Calls.{count-small}
@@ -66,23 +67,17 @@ module _ (m : Map) (tag : Tag) (s f random : List ℕ) (room : ℕ) where
   done-small Proof = omega arith
   done-small Halt = omega arith
 
-  not-small : (t : Bool) (n : ℕ) (e : Effect) → sayNibble (cond t (kept n tag) (refused n e) .say) < 16
+  decided-small : sayNibble (decide m tag s f random room .say) < 16
   unfolding kept refused nibbleOf
-  not-small true n e = omega arith
-  not-small false n e = nak-small (eqb n 2) (eqb n 9 || eqb n 11)
-
-  by-number : (n : ℕ) → frameNumber m tag s f random room ≡ n → sayNibble (decide m tag s f random room .say) < 16
-  unfolding notDone
-  by-number zero h = let c = carried m tag s f random room h in rw (c .decided) (done-small (c .command))
-  by-number (suc n) h =
-      rw (decide-not m tag s f random room (λ z. omega arith))
-      (not-small (eqb (frameNumber m tag s f random room) 1 || eqb (frameNumber m tag s f random room) 10) _ _)
+  decided-small =
+      decide-is m tag s f random room (λ (d : Decision). sayNibble (d .say) < 16) (λ c. done-small (c .command)) (λ n. omega arith)
+      (λ n b e. nak-small (eqb n 2) (eqb n 9 || eqb n 11))
 
 pub nibble-small : (tag : Tag) (s f random : List ℕ) (room : ℕ) → nibbleSaid (replyOf (frame tag s f random room .said)) < 16
 unfolding frame
 nibble-small tag s f random room =
     let d = decide mf0aes20 tag s f random room in
-    rw (same-nibble mf0aes20 tag s (d .block) (d .say)) (by-number mf0aes20 tag s f random room (frameNumber mf0aes20 tag s f random room) refl)
+    rw (same-nibble mf0aes20 tag s (d .block) (d .say)) (decided-small mf0aes20 tag s f random room)
 
 -- ---- the answer
 
@@ -90,13 +85,21 @@ module _ (tag : Tag) (s f random : List ℕ) (room : ℕ) where
   abbrev o : Outcome
   o = frame tag s f random room
 
-  told : (numberIn (answerOf (o .number) (replyOf (o .said))) ≡ o .number) × (replyIn (answerOf (o .number) (replyOf (o .said))) ≡ replyOf (o .said))
+  abbrev answer : ℕ
+  answer = answerOf (o .number) (barredPlace (o .reason)) (replyOf (o .said))
+
+  told : (numberIn answer ≡ o .number) × (reasonIn answer ≡ barredPlace (o .reason)) × (replyIn answer ≡ replyOf (o .said))
   told =
-      answer-told (o .number) (replyOf (o .said)) (omega (arith, number-in-table tag s f random room)) (nibble-small tag s f random room)
+      answer-told (o .number) (barredPlace (o .reason)) (replyOf (o .said)) (omega (arith, number-in-table tag s f random room))
+      (omega (arith, place-small (o .reason)))
+      (nibble-small tag s f random room)
       (count-small tag s f random room)
 
-  pub number-read : numberIn (answerOf (o .number) (replyOf (o .said))) ≡ o .number
+  pub number-read : numberIn answer ≡ o .number
   number-read = told .0
 
-  pub reply-read : replyIn (answerOf (o .number) (replyOf (o .said))) ≡ replyOf (o .said)
-  reply-read = told .1
+  pub reason-read : reasonIn answer ≡ barredPlace (o .reason)
+  reason-read = told .1
+
+  pub reply-read : replyIn answer ≡ replyOf (o .said)
+  reply-read = told .2

@@ -1,4 +1,5 @@
 pub mod Answers
 pub mod Made
 pub mod Steps
-pub mod Demands
+pub mod Demand1
+pub mod Demand3

@@ -7,13 +7,13 @@
 --   Made           the same for a call of `kz_power`, `kz_select` or `kz_frame`
 --   callOf m       the call, as demand 3's machine is given it
 --   left b m       the buffers after the call
---   got b m        what came back: number, reply, and what the buffers then hold
+--   got b m        what came back: number, reply, reason, and what the buffers then hold
 --   Handed b m     the call was given the buffers b
 --   InTurn b ms    each call of ms was given the buffers as the calls before it left them
 --   logOf, last    the log of the calls, by what came back, and the buffers in the end
 --
 -- `Learnt` is the toolchain's reading of a contract: the claims of the `ensures` clauses in tag_c/src/lib.rt, of the arguments, the result and the
--- references at exit. The number and the reply of a frame are read out of its answer as the accessors of include/kazdumera.h do. Assumes nothing.
+-- references at exit. The number, the reply and the reason of a frame are read out of its answer as the accessors of include/kazdumera.h do. Assumes nothing.
 use mathlib.Core.Path.{_≡_}
 use mathlib.Core.List.{List, [], _∷_, map}
 use Prim.Native.Nat.{ℕ}
@@ -21,12 +21,11 @@ use lib.ListN.{length}
 use contract.Lifetimes.{Lfts}
 use denote.Ref.{now}
 use Rattle.forget.specs.Machine.{Given, Entry, entry}
-use Rattle.model.specs.Frame.{Said, silence}
-use Rattle.model.specs.Calls.{Box, Call, power, select, frame, tagMachine}
+use Rattle.model.specs.Calls.{Box, Call, power, select, frame, Report, quiet, tagMachine}
 use Rattle.runs.specs.Heard.{heard}
 use Rattle.runs.proofs.Made.{Slice}
 use Rattle.c_record.specs.Record.{recordOf}
-use Rattle.c_answer.specs.Answer.{numberIn, replyIn}
+use Rattle.c_answer.specs.Answer.{numberIn, reasonIn, replyIn}
 use Rattle.tag_c.proofs.kz_power.Reads as power-call
 use Rattle.tag_c.proofs.kz_select.Reads as select-call
 use Rattle.tag_c.proofs.kz_frame.Reads as frame-call
@@ -85,11 +84,15 @@ left b (powered κs bytes n bytes′ h) = record { bytes = now bytes′; store =
 left b (selected κs bytes n bytes′ h) = record { bytes = now bytes′; store = b .store }
 left b (framed κs bytes store f random reply a bytes′ store′ reply′ h) = record { bytes = now bytes′; store = now store′ }
 
-abbrev pub got : Buffers → Made → Given Box Said
-got b (powered κs bytes n bytes′ h) = record { number = n; said = silence; next = record { tag = recordOf (now bytes′); store = b .store } }
-got b (selected κs bytes n bytes′ h) = record { number = n; said = silence; next = record { tag = recordOf (now bytes′); store = b .store } }
+abbrev pub got : Buffers → Made → Given Box Report
+got b (powered κs bytes n bytes′ h) = record { number = n; said = quiet; next = record { tag = recordOf (now bytes′); store = b .store } }
+got b (selected κs bytes n bytes′ h) = record { number = n; said = quiet; next = record { tag = recordOf (now bytes′); store = b .store } }
 got b (framed κs bytes store f random reply a bytes′ store′ reply′ h) =
-    record { number = numberIn a; said = heard (replyIn a) (now reply′); next = record { tag = recordOf (now bytes′); store = now store′ } }
+    record {
+      number = numberIn a;
+      said = record { reply = heard (replyIn a) (now reply′); place = reasonIn a };
+      next = record { tag = recordOf (now bytes′); store = now store′ };
+    }
 
 abbrev pub Handed : Buffers → Made → Type 0
 Handed b (powered κs bytes n bytes′ h) = now bytes ≡ b .bytes

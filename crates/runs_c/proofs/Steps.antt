@@ -28,12 +28,13 @@ use denote.Ref.{now}
 use Rattle.forget.specs.Machine.{Given, Every, entry, log, end}
 use Rattle.model.specs.Record as event
 use Rattle.model.specs.Frame as tag-frame
-use Rattle.model.specs.Frame.{Said, Outcome, replyOf, laidOver}
+use Rattle.model.specs.Writing.{barredPlace}
+use Rattle.model.specs.Frame.{Outcome, replyOf, laidOver}
 use Rattle.model.specs.Map.{mf0aes20, storeSize}
 use Rattle.model.specs.CaseImages.{base}
 use Rattle.model.specs.Image as tag-image
 use Rattle.model.specs.Calls as call
-use Rattle.model.specs.Calls.{Box, Call, Bytes, Fit, power, select, step, tagMachine, loadedBox}
+use Rattle.model.specs.Calls.{Box, Call, Bytes, Fit, power, select, Report, quiet, step, tagMachine, loadedBox}
 use Rattle.model.proofs.Valid.{Valid}
 use Rattle.model.proofs.Sound.{valid-step}
 use Rattle.model.proofs.Claims.{loaded-valid}
@@ -45,10 +46,10 @@ use Rattle.runs.proofs.Heard.{said-fits, heard-said}
 use Rattle.c_record.specs.Record.{recordSize, recordOf, bytesOf, keeps, handedBack}
 use Rattle.c_record.specs.Claims.{Holds}
 use Rattle.c_record.proofs.Laws.{bytes-long, decode-after-encode, handed-kept, handed-written}
-use Rattle.c_answer.specs.Answer.{answerOf, numberIn, replyIn}
+use Rattle.c_answer.specs.Answer.{answerOf, numberIn, reasonIn, replyIn}
 use Rattle.tag_c.specs.Calls as c-form
 use Rattle.tag_c.proofs.Calls.{power-fits, select-fits, frame-fits, load-fits, load-other}
-use Rattle.runs_c.proofs.Answers.{number-read, reply-read}
+use Rattle.runs_c.proofs.Answers.{number-read, reason-read, reply-read}
 use Rattle.runs_c.proofs.Made.{Buffers, held, Loading, buffersOf, Made, powered, selected, framed, callOf, left, got, Handed, InTurn, logOf, last, callsOf}
 
 pub record Sound (b : Buffers) : Type 0 where
@@ -143,18 +144,19 @@ unfolding step
 got-step b (powered κs bytes n bytes′ h) sound e fit =
     let n0 : n ≡ 0 = h .0 ∙ ap (λ (y : List ℕ). c-form.power y .number) e ∙ ap (λ (v : c-form.Evented). v .number) (power-fits (b .bytes) (sound .long)) in
     let t = ap recordOf (powered-bytes b sound (now bytes) (now bytes′) e (h .1)) ∙ power-back b sound in
-    λ i. record { number = n0 i; said = tag-frame.silence; next = record { tag = t i; store = b .store } }
+    λ i. record { number = n0 i; said = quiet; next = record { tag = t i; store = b .store } }
 got-step b (selected κs bytes n bytes′ h) sound e fit =
     let n0 : n ≡ 0 = h .0 ∙ ap (λ (y : List ℕ). c-form.select y .number) e ∙ ap (λ (v : c-form.Evented). v .number) (select-fits (b .bytes) (sound .long)) in
     let t = ap recordOf (selected-bytes b sound (now bytes) (now bytes′) e (h .1)) ∙ select-back b sound in
-    λ i. record { number = n0 i; said = tag-frame.silence; next = record { tag = t i; store = b .store } }
+    λ i. record { number = n0 i; said = quiet; next = record { tag = t i; store = b .store } }
 got-step b (framed κs bytes store f random reply a bytes′ store′ reply′ h) sound e fit =
     let tag = recordOf (b .bytes) in
     let room = length (now reply) in
     let o = tag-frame.frame tag (b .store) (now f) (now random) room in
     let here = framed-here b sound (now bytes) (now store) (now f) (now random) (now reply) (e .0) (e .1) in
-    let answer : a ≡ answerOf (o .number) (replyOf (o .said)) = h .0 ∙ ap (λ (v : c-form.Framed). v .answer) here in
+    let answer : a ≡ answerOf (o .number) (barredPlace (o .reason)) (replyOf (o .said)) = h .0 ∙ ap (λ (v : c-form.Framed). v .answer) here in
     let number : numberIn a ≡ o .number = ap numberIn answer ∙ number-read tag (b .store) (now f) (now random) room in
+    let place : reasonIn a ≡ barredPlace (o .reason) = ap reasonIn answer ∙ reason-read tag (b .store) (now f) (now random) room in
     let spoken : replyIn a ≡ replyOf (o .said) = ap replyIn answer ∙ reply-read tag (b .store) (now f) (now random) room in
     let laid : now reply′ ≡ laidOver (now reply) (o .said) = h .1 .1 .1 ∙ ap (λ (v : c-form.Framed). v .reply) here in
     let said : heard (replyIn a) (now reply′) ≡ o .said =
@@ -162,7 +164,7 @@ got-step b (framed κs bytes store f random reply a bytes′ store′ reply′ h
     let t : recordOf (now bytes′) ≡ o .tag =
     ap recordOf (h .1 .0 ∙ ap (λ (v : c-form.Framed). v .bytes) here) ∙ frame-back b sound (now f) (now random) room fit .0 in
     let s : now store′ ≡ o .store = h .1 .1 .0 ∙ ap (λ (v : c-form.Framed). v .store) here in
-    λ i. record { number = number i; said = said i; next = record { tag = t i; store = s i } }
+    λ i. record { number = number i; said = record { reply = said i; place = place i }; next = record { tag = t i; store = s i } }
 
 left-long : (b : Buffers) (m : Made) → Sound b → Handed b m → Fit (callOf m) → length (left b m .bytes) ≡ recordSize
 left-long b (powered κs bytes n bytes′ h) sound e fit = ap length (powered-bytes b sound (now bytes) (now bytes′) e (h .1)) ∙ power-long b sound
@@ -179,7 +181,7 @@ held-left b (framed κs bytes store f random reply a bytes′ store′ reply′ 
 
 -- what the buffers hold behind a call
 pub held-step : (b : Buffers) (m : Made) → Sound b → Handed b m → Fit (callOf m) → held (left b m) ≡ step (held b) (callOf m) .next
-held-step b m sound e fit = held-left b m ∙ ap (λ (g : Given Box Said). g .next) (got-step b m sound e fit)
+held-step b m sound e fit = held-left b m ∙ ap (λ (g : Given Box Report). g .next) (got-step b m sound e fit)
 
 pub sound-left : (b : Buffers) (m : Made) → Sound b → Handed b m → Fit (callOf m) → Sound (left b m)
 sound-left b m sound e fit = record {

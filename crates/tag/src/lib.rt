@@ -7,6 +7,7 @@ use model::Tag;
 use reply::speaking;
 ghost use mathlib.Core.Path.{_≡_};
 ghost use lib.ListN.{length};
+ghost use Rattle.model.specs.declared.Barred.the-variants.{Open};
 ghost use Rattle.model.specs.declared.Reply.the-variants.{Silence};
 ghost use Rattle.model.specs.Record.{power, select};
 ghost use Rattle.model.specs.Frame.{frame, replyOf, laidOver};
@@ -14,22 +15,23 @@ ghost use Rattle.model.specs.Image.{load, save};
 
 // The field comes on: the tag waits.
 pub fn power(tag: Tag) -> Answer
-    ensures { λ r. ⌜ r ≡ record { number = 0; reply = Silence; tag = power tag } ⌝ }
+    ensures { λ r. ⌜ r ≡ record { number = 0; reply = Silence; reason = Open; tag = power tag } ⌝ }
 {
     events::event(tag, State::Waiting)
 }
 
 // The reader selects the tag, whatever its state.
 pub fn select(tag: Tag) -> Answer
-    ensures { λ r. ⌜ r ≡ record { number = 0; reply = Silence; tag = select tag } ⌝ }
+    ensures { λ r. ⌜ r ≡ record { number = 0; reply = Silence; reason = Open; tag = select tag } ⌝ }
 {
     events::event(tag, State::Active)
 }
 
-// A frame, with sixteen random bytes and a buffer for the reply.
+// A frame, with sixteen random bytes and a buffer for the reply. A WRITE that is refused says which rule stopped it.
 pub fn frame(tag: Tag, store: &mut [u8], f: &[u8], random: &[u8], reply: &mut [u8]) -> Answer
     ensures { λ r. ⌜ r .number ≡ frame tag (now (store .entry)) (now (f .entry)) (now (random .entry)) (length (now (reply .entry))) .number ⌝ }
     ensures { λ r. ⌜ r .reply ≡ replyOf (frame tag (now (store .entry)) (now (f .entry)) (now (random .entry)) (length (now (reply .entry))) .said) ⌝ }
+    ensures { λ r. ⌜ r .reason ≡ frame tag (now (store .entry)) (now (f .entry)) (now (random .entry)) (length (now (reply .entry))) .reason ⌝ }
     ensures { λ r. ⌜ r .tag ≡ frame tag (now (store .entry)) (now (f .entry)) (now (random .entry)) (length (now (reply .entry))) .tag ⌝ }
     ensures { λ _. ⌜ now (store .exit) ≡ frame tag (now (store .entry)) (now (f .entry)) (now (random .entry)) (length (now (reply .entry))) .store ⌝ }
     ensures { λ _. ⌜ now (reply .exit) ≡ laidOver (now (reply .entry)) (frame tag (now (store .entry)) (now (f .entry)) (now (random .entry)) (length (now (reply .entry))) .said) ⌝ }
@@ -39,12 +41,14 @@ pub fn frame(tag: Tag, store: &mut [u8], f: &[u8], random: &[u8], reply: &mut [u
     let say = d.say;
     let block = d.block;
     let effect = d.effect;
+    let reason = d.reason;
     let said = speaking::speak(map, tag, &store[..], say, block, reply);
     storing::store_after(store, effect);
     let next = storing::tag_after(tag, d);
     Answer {
         number: d.number,
         reply: said,
+        reason,
         tag: next,
     }
 }

@@ -20,7 +20,7 @@ use Rattle.model.specs.Map.{mf0aes20, replySize}
 use Rattle.model.specs.Record as tag-record
 use Rattle.model.specs.Frame as tag-frame
 use Rattle.model.specs.Frame.{Said, silence, nibble, bytes, replyOf}
-use Rattle.model.specs.Calls.{Box, step}
+use Rattle.model.specs.Calls.{Box, Report, step}
 use Rattle.runs.proofs.Heard.{inBuffer, said-fits}
 use Rattle.runs.proofs.Steps.{step-room}
 use Rattle.c_record.specs.Record.{recordSize, recordOf, bytesOf}
@@ -66,7 +66,7 @@ module _ (b : List ℕ) (h : length b ≡ recordSize → ⊥) where
   select-other = rw (fits-false b h)
 
   pub frame-other : (s f random reply : List ℕ)
-      → frame b s f random reply ≡ record { answer = answerOf 10 Silence; bytes = b; store = s; reply = reply }
+      → frame b s f random reply ≡ record { answer = answerOf 10 0 Silence; bytes = b; store = s; reply = reply }
   unfolding frame
   frame-other s f random reply = rw (fits-false b h)
 
@@ -96,7 +96,7 @@ module _ (tag : Tag) (s f random : List ℕ) where
   in-242 room (no h) =
       let b : Box = record { tag = tag; store = s } in
       let same : saidIn room ≡ saidIn (replySize mf0aes20) =
-      ap (λ (g : Given Box Said). g .said) (step-room b f random room (replySize mf0aes20) (omega arith) (omega arith)) in
+      ap (λ (g : Given Box Report). g .said .reply) (step-room b f random room (replySize mf0aes20) (omega arith) (omega arith)) in
       rw same (said-fits tag s f random (replySize mf0aes20))
 
   pub count-small : (room : ℕ) → countOf (replyOf (saidIn room)) < 65536

@@ -15,6 +15,7 @@ use lib.ListN.{length}
 use Rattle.model.specs.declared.Tag.{Tag}
 use Rattle.model.specs.declared.Reply.the-variants.{Silence}
 use Rattle.model.specs.Record as tag-record
+use Rattle.model.specs.Writing.{barredPlace}
 use Rattle.model.specs.Frame as tag-frame
 use Rattle.model.specs.Frame.{replyOf, laidOver}
 use Rattle.model.specs.Image as tag-image
@@ -47,7 +48,7 @@ abbrev pub framed : List ℕ → List ℕ → List ℕ → List ℕ → List ℕ
 framed b s f random reply =
     let o = tag-frame.frame (recordOf b) s f random (length reply) in
     record {
-      answer = answerOf (o .number) (replyOf (o .said));
+      answer = answerOf (o .number) (barredPlace (o .reason)) (replyOf (o .said));
       bytes = handedBack (o .number) (o .tag) b;
       store = o .store;
       reply = laidOver reply (o .said);
@@ -55,7 +56,7 @@ framed b s f random reply =
 
 unfoldable pub frame : List ℕ → List ℕ → List ℕ → List ℕ → List ℕ → Framed
 frame b s f random reply =
-    cond (fits b) (framed b s f random reply) (record { answer = answerOf 10 Silence; bytes = b; store = s; reply = reply })
+    cond (fits b) (framed b s f random reply) (record { answer = answerOf 10 0 Silence; bytes = b; store = s; reply = reply })
 
 pub record Loaded : Type 0 where
   pub number : ℕ

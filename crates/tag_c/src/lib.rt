@@ -6,6 +6,7 @@ use c_record::hand_back;
 use c_record::put_record;
 use c_record::record_of;
 use model::Reply;
+use numbers::barred_place;
 ghost use mathlib.Core.Path.{_≡_};
 ghost use Rattle.tag_c.specs.Calls.{power, select, frame, load, save};
 
@@ -54,14 +55,15 @@ pub extern "C" fn kz_frame(
     ensures { λ _. ⌜ now (reply .exit) ≡ frame (now («record» .entry)) (now (store .entry)) (now (f .entry)) (now (random .entry)) (now (reply .entry)) .reply ⌝ }
 {
     if record.len() != RECORD_SIZE {
-        return answer_of(10, Reply::Silence);
+        return answer_of(10, 0, Reply::Silence);
     }
     let a = tag::frame(record_of(&record[..]), store, f, random, reply);
     let number = a.number;
     let said = a.reply;
+    let reason = a.reason;
     let next = a.tag;
     hand_back(record, number, next);
-    answer_of(number, said)
+    answer_of(number, barred_place(reason), said)
 }
 
 // An image file is loaded into a store, and its record into the record buffer.

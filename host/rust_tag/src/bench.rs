@@ -1,6 +1,7 @@
 //! The bench program (document 01, "Image file and bench program"; docs/SCRIPTS.md).
 
 use super::crc::{crc_a, CRC_LEN};
+use super::rules::Rule;
 use super::tag::{self, Record, Reply, Store, IMAGE_LEN, RANDOM_LEN, REPLY_LEN, STORE_LEN};
 use std::ffi::OsStr;
 use std::fs::File;
@@ -88,7 +89,7 @@ impl Bench {
             Line::Frame { bytes, len } => tag::frame(self.record, &mut self.store, &bytes[..len], &random, &mut self.reply),
         };
         self.record = answer.record;
-        self.print(answer.number, answer.reply, out);
+        self.print(answer.rule, answer.reply, out);
         true
     }
 
@@ -99,8 +100,9 @@ impl Bench {
         false
     }
 
-    /// The number, and behind a space any data without CRC; a nibble prints nothing more.
-    fn print(&self, number: u8, reply: Reply, out: &mut Vec<u8>) {
+    /// The number, and behind a space any data without CRC, or why a WRITE was refused; a nibble prints nothing.
+    fn print(&self, rule: Rule, reply: Reply, out: &mut Vec<u8>) {
+        let number = rule.number();
         if number >= 10 {
             out.push(b'0' + number / 10);
         }
@@ -108,6 +110,9 @@ impl Bench {
         if let Reply::Bytes(len) = reply {
             out.push(b' ');
             push_hex(out, &self.reply[..len - CRC_LEN]);
+        }
+        if rule.reason() != 0 {
+            out.extend([b' ', b'0' + rule.reason()]);
         }
         out.push(b'\n');
     }

@@ -89,7 +89,7 @@ fn event(record: &mut [u8], call: fn(Record) -> Answer) -> Rule {
     answer.rule
 }
 
-/// The calls with the reason for each number, which the C form does not tell.
+/// The calls with the rule behind each number, of which the C form tells no more than why a WRITE was refused.
 pub mod by_rule {
     use super::*;
 
@@ -123,13 +123,13 @@ pub mod by_rule {
     /// The answers 1 and 10 keep the record as it came, so they do not write its buffer: an unused key number stays too.
     pub fn frame(record: &mut [u8], store: &mut [u8], frame: &[u8], random: &[u8], reply: &mut [u8]) -> (u64, Rule) {
         let Ok(buffer) = <&mut Buffer>::try_from(record) else {
-            return (packed(UNUSABLE, Reply::Silence), Rule::RecordLength);
+            return (packed(Rule::RecordLength, Reply::Silence), Rule::RecordLength);
         };
         let answer = tag::frame(record_of(buffer), store, frame, random, reply);
         if answer.number != WAITS && answer.number != UNUSABLE {
             *buffer = buffer_of(&answer.record);
         }
-        (packed(answer.number, answer.reply), answer.rule)
+        (packed(answer.rule, answer.reply), answer.rule)
     }
 }
 
@@ -153,15 +153,15 @@ pub fn frame(record: &mut [u8], store: &mut [u8], frame: &[u8], random: &[u8], r
     by_rule::frame(record, store, frame, random, reply).0
 }
 
-/// The number in the lowest byte, then the reply kind, the nibble and a reason that is not used yet, a byte each; then the byte count
-/// and a bit count that is not used yet, 16 bits each.
-fn packed(number: u8, reply: Reply) -> u64 {
+/// The number in the lowest byte, then the reply kind, the nibble and the reason, a byte each; then the byte count and a bit count that is
+/// not used yet, 16 bits each.
+fn packed(rule: Rule, reply: Reply) -> u64 {
     let (kind, nibble, count) = match reply {
         Reply::Silence => (SILENCE, 0, 0),
         Reply::Nibble(nibble) => (NIBBLE, nibble, 0),
         Reply::Bytes(count) => (BYTES, 0, count),
     };
-    u64::from(number) | kind << 8 | u64::from(nibble) << 16 | (count as u64) << 32
+    u64::from(rule.number()) | kind << 8 | u64::from(nibble) << 16 | u64::from(rule.reason()) << 24 | (count as u64) << 32
 }
 
 const _: () = assert!(CHALLENGE_AT + RANDOM_LEN == RECORD_LEN);

@@ -1,5 +1,5 @@
-//! The rules of document 01, one by one. A number can have several reasons; a rule is one reason, so that tests can count which of them
-//! were met. Where several rules apply, the tag tells the first one it checked.
+//! The rules of document 01, one by one. A number can come from several rules; here they are told apart, so that tests can count which of
+//! them were met. Where several rules apply, the tag tells the first one it checked.
 
 /// Makes the enum and, for each rule, its number and its name in words.
 macro_rules! rules {
@@ -25,6 +25,22 @@ macro_rules! rules {
             }
         }
     };
+}
+
+impl Rule {
+    /// Why a WRITE was refused: the rule's place in request E6's order. 0 for every rule that is none of its six (D69). BLOCK_LOCK_KEY is a
+    /// key lock (D68).
+    pub const fn reason(self) -> u8 {
+        match self {
+            Rule::WriteProtected => 1,
+            Rule::RandomIdChange => 2,
+            Rule::LockByte0 | Rule::LockByte1 => 3,
+            Rule::LockByte2 | Rule::LockByte3 => 4,
+            Rule::KeyLocksBlocked | Rule::DataProtKeyLocked | Rule::UidRetrKeyLocked => 5,
+            Rule::ConfigurationLocked => 6,
+            _ => 0,
+        }
+    }
 }
 
 rules! {

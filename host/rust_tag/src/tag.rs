@@ -149,7 +149,7 @@ pub enum Reply {
 #[derive(Clone, Copy, Debug, PartialEq, Eq)]
 pub struct Answer {
     pub number: u8,
-    /// The reason for the number.
+    /// The rule behind the number.
     pub rule: Rule,
     pub reply: Reply,
     pub record: Record,
@@ -263,7 +263,7 @@ pub fn load(image: &[u8], store: &mut [u8]) -> (u8, Record) {
     (rule.number(), record)
 }
 
-/// The same with the reason for the number. 10 comes before 12.
+/// The same with the rule behind the number. 10 comes before 12.
 pub fn load_by_rule(image: &[u8], store: &mut [u8]) -> (Rule, Record) {
     if store.len() != STORE_LEN {
         return (Rule::StoreLength, Record::ZERO);
@@ -282,7 +282,7 @@ pub fn save(record: &Record, store: &[u8], image: &mut [u8]) -> u8 {
     save_by_rule(record, store, image).number()
 }
 
-/// The same with the reason for the number.
+/// The same with the rule behind the number.
 pub fn save_by_rule(record: &Record, store: &[u8], image: &mut [u8]) -> Rule {
     let usable = || {
         require(store.len() == STORE_LEN, Rule::StoreLength)?;
@@ -510,6 +510,7 @@ impl Session<'_> {
 
     // ---- writing (10.4)
 
+    /// The rules that bar a page are checked in request E6's order. Of the locks a page has one at most, so their order is never seen.
     fn write(&mut self, page: u8, data: Page) -> Outcome {
         require(page >= LOCK_PAGE, Rule::WritePageLow)?;
         require(page <= LAST_PAGE, Rule::WritePageHigh)?;

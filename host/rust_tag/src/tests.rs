@@ -498,6 +498,136 @@ fn counter_2_by_its_settings() {
 
 const COUNTER_TOP: u32 = 0xFFFFFF;
 
+// ---- why a WRITE was refused (request E6)
+
+/// The number and the reason that the C form answers. Beside them a refusal has a NAK of its number, whatever the reason.
+fn why(rig: &Rig, plain: &str) -> (u8, u8) {
+    let (mut record, mut store, mut reply) = (buffer_of(&rig.record), rig.store.clone(), rig.reply.clone());
+    let answer = c_form::frame(&mut record, &mut store, &with_crc(&hex(plain)), &rig.random, &mut reply);
+    let (number, reason) = (answer as u8, (answer >> 24) as u8);
+    if reason != 0 {
+        assert_eq!(answer, 1 << 8 | u64::from(reason) << 24 | u64::from(number), "{plain}");
+        assert_eq!(store, rig.store, "{plain}");
+    }
+    (number, reason)
+}
+
+fn auth0(page: &str) -> Rig {
+    Rig::new().put(0x29, &format!("000000{page}"))
+}
+
+/// A tag with every lock set, and Random ID off.
+fn all_locked(auth0: &str) -> Rig {
+    Rig::new().put(2, "8899f8ff").put(0x28, "ff0f0000").put(0x29, &format!("000000{auth0}")).put(0x2A, "4c").put(0x2D, "e0")
+}
+
+#[test]
+fn each_rule_is_told() {
+    let rows = [
+        (auth0("04"), "a20400000000", (6, 1)),
+        (auth0("00"), "a20200000100", (6, 1)),
+        (Rig::new(), "a2290100003c", (6, 2)),
+        (Rig::new().put(0x29, "01"), "a2290000003c", (6, 2)),
+        (Rig::new().put(2, "88990800"), "a20300000000", (7, 3)),
+        (Rig::new().put(2, "88990080"), "a20f00000000", (7, 3)),
+        (Rig::new().put(0x28, "01"), "a21100000000", (7, 4)),
+        (Rig::new().put(0x28, "0008"), "a22600000000", (7, 4)),
+        (Rig::new().put(0x2D, "40"), "a23000000000", (7, 5)),
+        (Rig::new().put(0x2D, "80"), "a23700000000", (7, 5)),
+        (Rig::new().put(0x2D, "20"), "a22d00000000", (7, 5)),
+        (Rig::new().put(0x2A, "4c"), "a2290000003c", (7, 6)),
+        (Rig::new().put(0x2A, "4c"), "a22a00000000", (7, 6)),
+    ];
+    for (rig, plain, answer) in rows {
+        assert_eq!(why(&rig, plain), answer, "{plain}");
+    }
+}
+
+/// The locked pages, one or more of each kind, and the reason where AUTH0 does not bar them.
+const LOCKED: [(&str, u8); 10] = [
+    ("a20300000000", 3), ("a20f00000000", 3), ("a21000000000", 4), ("a22700000000", 4), ("a22d00000000", 5), ("a23000000000", 5),
+    ("a23700000000", 5), ("a22900000000", 6), ("a22a00000000", 6), ("a22a4c000000", 6),
+];
+
+#[test]
+fn auth0_is_told_before_each_lock() {
+    for (plain, lock) in LOCKED {
+        assert_eq!(why(&all_locked("3c"), plain), (7, lock), "{plain}");
+        assert_eq!(why(&all_locked("00"), plain), (6, 1), "{plain}");
+        let mut login = all_locked("00");
+        assert_eq!(login.login(0), 0);
+        assert_eq!(why(&login, plain), (7, lock), "{plain}");
+    }
+}
+
+/// All three rules of page 29h: each with each, and AUTH0 and Random ID away one after the other.
+#[test]
+fn the_first_of_three_rules_is_told() {
+    let random_id = "a22901000029";
+    assert_eq!(why(&all_locked("29"), random_id), (6, 1));
+    assert_eq!(why(&auth0("29"), random_id), (6, 1));
+    assert_eq!(why(&all_locked("2a"), random_id), (6, 2));
+    assert_eq!(why(&all_locked("2a"), "a22900000029"), (7, 6));
+    let mut traceable = all_locked("29");
+    assert_eq!(traceable.login(1), 0);
+    assert_eq!(why(&traceable, random_id), (6, 1));
+    let mut unprotected = all_locked("2a");
+    assert_eq!(unprotected.login(1), 0);
+    assert_eq!(why(&unprotected, random_id), (7, 6));
+}
+
+/// On a tag where each WRITE is barred, and reading and counter 2 too.
+#[test]
+fn other_answers_have_no_reason() {
+    let closed = all_locked("00").put(0x2A, "c0050500");
+    for (plain, number) in [
+        ("3004", 6), ("3a0404", 6), ("3902", 6), ("a50201000000", 6), ("a20000000000", 5), ("a20100000000", 5), ("a23c00000000", 5), ("a2ff00000000", 5),
+        ("303c", 5), ("a20400", 4), ("a2", 4), ("af", 3), ("3900", 0), ("a50001000000", 0), ("1a00", 0), ("5000", 0),
+    ] {
+        assert_eq!(why(&closed, plain), (number, 0), "{plain}");
+    }
+    let mut login = closed.clone();
+    assert_eq!(login.login(0), 0);
+    assert_eq!(why(&login, "a22800000000"), (0, 0));
+    let (mut limit, mut full, mut waiting, mut short) = (closed.clone(), closed.clone(), closed.clone(), closed.clone());
+    limit.record.failed = 5;
+    assert_eq!(why(&limit, "1a00"), (11, 0));
+    full.record.counters[0] = COUNTER_TOP;
+    assert_eq!(why(&full, "a50001000000"), (9, 0));
+    waiting.record.state = State::Waiting;
+    assert_eq!(why(&waiting, "a20400000000"), (1, 0));
+    short.store.pop();
+    assert_eq!(why(&short, "a20400000000"), (10, 0));
+    let mut challenged = closed;
+    assert_eq!(challenged.number("1a00"), 0);
+    assert_eq!(why(&challenged, "a20400000000"), (3, 0));
+    assert_eq!(why(&challenged, &"af".repeat(33)), (8, 0));
+}
+
+/// The reason belongs to one answer: the record is that of any refusal, and the next frame is 1 without one.
+#[test]
+fn no_reason_is_kept() {
+    let mut rig = all_locked("3c");
+    let mut other = rig.clone();
+    assert_eq!(rig.send("a20400000000").rule.reason(), 3);
+    assert_eq!(other.send("a20000000000").rule.reason(), 0);
+    assert_eq!(buffer_of(&rig.record), buffer_of(&other.record));
+    assert_eq!(why(&rig, "a20400000000"), (1, 0));
+    rig.select();
+    assert_eq!(why(&rig, "a21000000000"), (7, 4));
+}
+
+#[test]
+fn reasons_go_with_6_and_7() {
+    for place in 1..=6 {
+        let number = if place <= 2 { 6 } else { 7 };
+        assert!(Rule::ALL.iter().any(|rule| rule.reason() == place), "{place}");
+        assert!(Rule::ALL.iter().filter(|rule| rule.reason() == place).all(|rule| rule.number() == number), "{place}");
+    }
+    let without = Rule::ALL.iter().filter(|rule| rule.number() == 7 && rule.reason() == 0).count();
+    assert_eq!((without, Rule::ALL.iter().filter(|rule| rule.reason() > 6).count()), (0, 0));
+}
+
 // ---- image
 
 fn sample_image() -> Vec<u8> {
@@ -729,6 +859,14 @@ fn the_bench_example_of_document_01() {
     assert_eq!(played(b"S\nF 3900\nF a20000000000\nF 3900\n"), "0\n0 0a0000\n5\n1\n");
     assert_eq!(played(b"S\nF 3900"), "0\n0 0a0000\n");
     assert_eq!(played(b""), "");
+}
+
+#[test]
+fn the_place_is_printed_behind_the_number() {
+    assert_eq!(played(b"S\nF a2290100003c\nF 3900\n"), "0\n6 2\n1\n");
+    assert_eq!(played(b"S\nF a22d60000000\nF a23000000000\nS\nF a22d00000000\n"), "0\n0\n7 5\n0\n7 5\n");
+    assert_eq!(played(b"S\nF a22900000004\nF a20400000000\nS\nF a20300000000\n"), "0\n0\n6 1\n0\n0\n");
+    assert_eq!(played(b"S\nF a22a00050000\nF 3902\nS\nF a20000000000\n"), "0\n0\n6\n0\n5\n");
 }
 
 #[test]

@@ -10,9 +10,10 @@ use denote.Ref.{now}
 use lib.ListN.{getD}
 use Rattle.model.specs.declared.Map.{Map}
 use Rattle.model.specs.declared.Tag.{Tag}
+use Rattle.model.specs.declared.Barred.the-variants.{Open}
 use Rattle.model.specs.declared.Command.the-variants.{Halt}
 use Rattle.model.specs.Numbers.{numberIf}
-use Rattle.model.specs.Frame.{commandNumber, commandDone}
+use Rattle.model.specs.Frame.{commandReason, commandNumber, commandDone}
 use Rattle.model.proofs.Ruling.{done-by, refused-by, halt-other}
 use Rattle.commands.proofs.halt.Statement.{statement}
 use Rattle.commands.proofs.halt.Tie as tie
@@ -33,10 +34,11 @@ returns c =
     done-by Halt (a .map) (a .tag) (now (a .s)) (now (a .f)) (now (a .random)) _ _ own refl (c .halted .ensures)
 
 returns-2 : tie.Need-returns-2
+unfolding commandReason
 returns-2 c =
     let a = c .before .before .before .before .before .before .args in
     let own = wrong (a .map) (a .tag) (now (a .s)) (now (a .f)) (λ e. c .before .if1 .left (c .before .before .at .ensures ∙ e)) in
-    refused-by Halt (a .map) (a .tag) (now (a .s)) (now (a .f)) (now (a .random)) _ _ own halt-other (omega arith) (c .refused .ensures)
+    refused-by Halt (a .map) (a .tag) (now (a .s)) (now (a .f)) (now (a .random)) _ _ own halt-other Open refl (omega arith) (c .refused .ensures)
 
 pub halt-spec : {M : Type 1} → statement M
 halt-spec = tie.close (tie.spec (λ c κs. search needs) (λ c κs. search needs) returns (λ c κs. search needs) returns-2)

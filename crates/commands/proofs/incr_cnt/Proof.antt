@@ -1,17 +1,18 @@
 -- `commands::incr_cnt` meets its contract: by its own number, what it comes to.
 -- Assumes nothing.
-use mathlib.Core.Path.{_≡_, sym, ap, ap₂, _∙_}
+use mathlib.Core.Path.{_≡_, refl, sym, ap, ap₂, _∙_}
 use Prim.Native.Nat.{_+_}
 use native.Mathlib.Omega.{arith}
 use borrow.Author.Needs.{needs}
 use denote.Ref.{now}
 use lib.ListN.{getD}
+use Rattle.model.specs.declared.Barred.the-variants.{Open}
 use Rattle.model.specs.declared.Command.the-variants.{IncrCnt}
 use Rattle.model.specs.declared.Effect.the-variants.{Counter}
 use Rattle.model.specs.Record.{counter}
 use Rattle.model.specs.Numbers.{acknowledged}
 use Rattle.model.specs.Counters.{increment, incrCntNumber}
-use Rattle.model.specs.Frame.{data4, commandNumber, commandDone}
+use Rattle.model.specs.Frame.{data4, commandReason, commandNumber, commandDone}
 use Rattle.model.proofs.Sound.{increment-low}
 use Rattle.model.proofs.Ruling.{done-by, refused-by, incr-cnt-other}
 use Rattle.commands.proofs.incr_cnt.Statement.{statement}
@@ -44,13 +45,13 @@ returns c =
     (c .acknowledged .ensures ∙ (λ i. acknowledged (a .tag) (Counter (number i) (v i + more i))))
 
 returns-2 : tie.Need-returns-2
-unfolding commandNumber
+unfolding commandReason commandNumber
 returns-2 c =
     let a = c .before .before .before .before .before .before .before .before .args in
     let number = c .before .before .before .before .at .ensures in
     let value = c .before .before .before .data-of .ensures in
     let own = sym (c .before .before .incr-cnt-number .ensures ∙ ap₂ (incrCntNumber (a .map) (a .tag) (now (a .s))) number value) in
-    refused-by IncrCnt (a .map) (a .tag) (now (a .s)) (now (a .f)) (now (a .random)) _ _ own incr-cnt-other (c .before .if1 .left)
+    refused-by IncrCnt (a .map) (a .tag) (now (a .s)) (now (a .f)) (now (a .random)) _ _ own incr-cnt-other Open refl (c .before .if1 .left)
     (c .refused .ensures)
 
 pub incr-cnt-spec : {M : Type 1} → statement M

@@ -6,6 +6,7 @@ use native.Mathlib.Omega.{arith}
 use lib.ListN.{length}
 use borrow.Author.Needs.{needs}
 use denote.Ref.{now}
+use Rattle.model.specs.declared.Barred.the-variants.{Open}
 use Rattle.model.specs.declared.Told.{Told}
 use Rattle.model.specs.declared.Effect.the-variants.{Keep}
 use Rattle.model.specs.Numbers.{refused}
@@ -22,7 +23,7 @@ returns c =
     let a = start .args in
     let code = c .before .before .before .told .ensures ∙ ap told (c .before .before .before .before .at .ensures) in
     let number = c .before .before .told-number .ensures ∙ ap (λ (t : Told). toldNumber t (a .tag .state) (length (now (a .f)))) code in
-    c .refused .ensures ∙ ap (λ (n : ℕ). refused n Keep) number
+    c .refused .ensures ∙ ap (λ (n : ℕ). refused n Open Keep) number
     ∙ sym (decide-told-refused (a .map) (a .tag) (now (a .s)) (now (a .f)) (now (a .random)) (a .room) (start .pre .0) (start .pre .1 .0)
     (start .pre .1 .1) (λ z. c .before .if1 .taken (number ∙ z)))
 

@@ -7,13 +7,16 @@ use Rattle.locks.proofs.barred.Tie as tie
 returns : tie.Need-returns
 unfolding barred
 returns c =
-    let early = c .before .before .before .before in
+    let late = c .before .before in
+    let early = late .before .before .before .before in
     let earliest = early .before .before .before .before in
     rw (
-      c .rule-if6 .ensures,
-      c .before .auth0-bars .ensures,
-      c .before .before .rule-if5 .ensures,
-      c .before .before .before .random-id-bars .ensures,
+      c .rule-if7 .ensures,
+      c .before .page-bars .ensures,
+      late .rule-if6 .ensures,
+      late .before .auth0-bars .ensures,
+      late .before .before .rule-if5 .ensures,
+      late .before .before .before .random-id-bars .ensures,
       early .rule-if4 .ensures,
       early .before .own-lock-bars .ensures,
       early .before .before .rule-if3 .ensures,
@@ -28,4 +31,4 @@ pub barred-spec : {M : Type 1} → statement M
 barred-spec =
     tie.close
     (tie.spec (λ c κs. tt) (λ c κs. tt) (λ c κs. tt) (λ c κs. tt) (λ c κs. tt) (λ c κs. tt) (λ c κs. tt) (λ c κs. tt) (λ c κs. tt)
-    (λ c κs. tt) (λ c κs. tt) (λ c κs. tt) returns)
+    (λ c κs. tt) (λ c κs. tt) (λ c κs. tt) (λ c κs. tt) (λ c κs. tt) returns)

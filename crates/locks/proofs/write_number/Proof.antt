@@ -10,10 +10,9 @@ returns c =
     rw (
       c .first .ensures,
       c .before .barred-number .ensures,
-      c .before .before .barred .ensures,
-      c .before .before .before .number-if .ensures,
-      c .before .before .before .before .last-page .ensures,
+      c .before .before .number-if .ensures,
+      c .before .before .before .page-bars .ensures,
     )
 
 pub write-number-spec : {M : Type 1} → statement M
-write-number-spec = tie.close (tie.spec (λ c κs. tt) (λ c κs. tt) (λ c κs. tt) (λ c κs. tt) (λ c κs. tt) returns)
+write-number-spec = tie.close (tie.spec (λ c κs. tt) (λ c κs. tt) (λ c κs. tt) (λ c κs. tt) returns)

@@ -3,6 +3,7 @@
 use mathlib.Core.Path.{sym, ap, _∙_}
 use borrow.Author.Needs.{needs}
 use denote.Ref.{now}
+use Rattle.model.specs.declared.Barred.the-variants.{Open}
 use Rattle.model.specs.Numbers.{refused}
 use Rattle.model.specs.Authentication.{rotated}
 use Rattle.login.proofs.PartTwo.{proof-refused, proof-granted}
@@ -21,7 +22,7 @@ returns-2 : tie.Need-returns-2
 returns-2 c =
     let start = c .before .before .before .before .before .before .before .before .before .before .before .before .before .before in
     let a = start .args in
-    c .refused .ensures ∙ ap (refused 8) (c .before .raised .ensures)
+    c .refused .ensures ∙ ap (refused 8 Open) (c .before .raised .ensures)
     ∙ sym (proof-refused (a .map) (a .tag) (now (a .s)) (now (a .f)) (now (a .random)) (start .pre .1 .1) _ _ (c .before .before .before .before .before .before .before .before .before .before .asked-key .ensures)
     (c .before .before .before .before .before .before .before .before .deciphered .ensures) _ (c .before .before .before .before .rotated .ensures) (sym (c .before .before .before .same-bytes .ensures) ∙ c .before .before .if1 .left))
 

@@ -5,6 +5,7 @@ use mathlib.Core.List.{[]}
 use native.Mathlib.Omega.{arith}
 use borrow.Author.Needs.{needs}
 use denote.Ref.{now}
+use Rattle.model.specs.Writing.{barredPlace}
 use Rattle.model.specs.Calls.{step}
 use Rattle.events.specs.declared.Answer.{Answer}
 use Rattle.answers.specs.Answer.{answerText}
@@ -23,7 +24,7 @@ returns c =
     let e = sym (c .before .before .before .before .before .before .before .line-of .ensures) ∙ c .before .before .before .before .before .enum-told .given .1 in
     let p = c .before .before .before .before .power .ensures in
     let t = c .before .before .event-turn .ensures in
-    let text = ap (λ (x : Answer). answerText (x .number) []) p in (
+    let text = ap (λ (x : Answer). answerText (x .number) (barredPlace (x .reason)) []) p in (
       rw e (t .0 ∙ ap (λ (x : Answer). x .tag) p),
       (rw e (t .1 .0), (t .1 .1 .0, (rw e (rw text at t .1 .1 .1), rw e refl))),
     )
@@ -34,7 +35,7 @@ returns-2 c =
     let e = sym (c .before .before .before .before .before .before .before .line-of .ensures) ∙ c .before .before .before .before .before .enum-told2 .given .1 in
     let p = c .before .before .before .before .select .ensures in
     let t = c .before .before .event-turn2 .ensures in
-    let text = ap (λ (x : Answer). answerText (x .number) []) p in (
+    let text = ap (λ (x : Answer). answerText (x .number) (barredPlace (x .reason)) []) p in (
       rw e (t .0 ∙ ap (λ (x : Answer). x .tag) p),
       (rw e (t .1 .0), (t .1 .1 .0, (rw e (rw text at t .1 .1 .1), rw e refl))),
     )

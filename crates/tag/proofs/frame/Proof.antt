@@ -26,10 +26,13 @@ returns c =
       (
         said .0 ∙ (λ i. replyOf (saidOf (map i) (a .tag) s (d .block) (d .say))) ∙ (λ i. replyOf (whole i .said)),
         (
-          c .tag-after .ensures ∙ (λ i. whole i .tag),
+          (λ i. whole i .reason),
           (
-            c .before .before .before .store-after .ensures ∙ (λ i. whole i .store),
-            said .1 ∙ (λ i. laidOver (now (a .reply)) (saidOf (map i) (a .tag) s (d .block) (d .say))) ∙ (λ i. laidOver (now (a .reply)) (whole i .said)),
+            c .tag-after .ensures ∙ (λ i. whole i .tag),
+            (
+              c .before .before .before .store-after .ensures ∙ (λ i. whole i .store),
+              said .1 ∙ (λ i. laidOver (now (a .reply)) (saidOf (map i) (a .tag) s (d .block) (d .say))) ∙ (λ i. laidOver (now (a .reply)) (whole i .said)),
+            ),
           ),
         ),
       ),

@@ -1,16 +1,16 @@
--- Demands 1 and 3 of the calls that firmware makes, by their `ensures` alone.
+-- Demand 1 of the calls that firmware makes, and request E6, by their `ensures` alone.
 --
---   CallsForget       demand 3: damage is forgotten, in what the calls hand back
 --   LoadsRefused, SavesRefused
---                     demand 1 of `kz_load` and of `kz_save`
---   EventsKeep        demand 1 of `kz_power` and `kz_select`
+--                     a refused `kz_load` and `kz_save`
+--   EventsKeep        `kz_power` and `kz_select`
 --   FramesNumbered, FramesRefused, FramesKeep
---                     demand 1 of `kz_frame`: its numbers; what a refusal leaves; 1 and 10 change no buffer
+--                     `kz_frame`: its numbers; what a refusal leaves; 1 and 10 change no buffer
+--   FramesSayWhy      why a WRITE was refused
 --
--- Stretch, struck out, silence and stored memory are document 01's terms; forget/specs and model/specs/Calls.antt define them. Assumes nothing.
+-- Assumes nothing.
 use mathlib.Core.Path.{_≡_, refl, sym, ap, subst, _∙_}
 use mathlib.Core.Logic.{_⊎_, inl, inr}
-use mathlib.Core.List.{List, [], _∷_, _++_, map}
+use mathlib.Core.List.{List, [], _∷_, _++_}
 use mathlib.Core.Bool.{Bool, true, false, not, _&&_, cond}
 use Prim.Native.Nat.{ℕ, _+_, _^_, _≤_, _<_}
 use native.Mathlib.Omega.{arith}
@@ -20,12 +20,10 @@ use lib.Dec.{eqb}
 use lib.ListN.{length, getD, take, drop}
 use contract.Lifetimes.{Lfts}
 use denote.Ref.{now}
-use Rattle.forget.specs.Machine.{Entry, Every, log, end}
-use Rattle.forget.specs.Claim.{Forgets}
-use Rattle.forget.specs.Striking.{Fate, clean, isStays, fates, having, staying, behindOthers, remaining}
 use Rattle.model.specs.declared.Tag.{Tag}
 use Rattle.model.specs.declared.State.{State}
 use Rattle.model.specs.declared.State.the-variants.{Waiting, Active}
+use Rattle.model.specs.declared.Command.the-variants.{Write}
 use Rattle.model.specs.declared.Decision.{Decision}
 use Rattle.model.specs.Map.{mf0aes20}
 use Rattle.model.specs.Settings.{authLimit}
@@ -33,118 +31,31 @@ use Rattle.model.specs.Record.{zeros, exists, possible, zeroTag}
 use Rattle.model.specs.declared.Reply.the-variants.{Silence, Nibble}
 use Rattle.model.specs.Counters.{lowFirst}
 use Rattle.model.specs.Numbers.{nibbleOf, kept}
-use Rattle.model.specs.Frame.{misfit, silence, Outcome, frame, replyOf, laidOver}
+use Rattle.model.specs.Writing.{barredPlace}
+use Rattle.model.specs.ReasonClaims.{firstRule, ruleAt}
+use Rattle.model.specs.Telling.{codeOf}
+use Rattle.model.specs.Frame.{misfit, data4, Outcome, frame, replyOf, laidOver}
 use Rattle.model.specs.Image as tag-image
 use Rattle.model.specs.Demand1.{Ended}
-use Rattle.model.specs.Calls.{Box, Bytes, Fit, storedOf, tagMachine}
-use Rattle.model.proofs.Image.{bounded, load-done}
+use Rattle.model.specs.Calls.{Bytes}
+use Rattle.model.proofs.Image.{bounded}
 use Rattle.model.proofs.Misfit.{fits-possible}
 use Rattle.model.proofs.Stages.{decide-misfit}
 use Rattle.model.proofs.Demand1.{number-in-table, refusal-ends, keeps-all, load-refused, save-refused}
-use Rattle.model.proofs.Claims.{damage-forgotten}
+use Rattle.model.proofs.Reasons.{first-rule-told, no-other-reason, place-tells-rule}
 use Rattle.runs.specs.Heard.{heard}
 use Rattle.runs.proofs.Heard.{said-fits, heard-said}
 use Rattle.runs.proofs.Made.{Slice}
 use Rattle.c_record.specs.Record.{recordSize, stateByte, recordOf, headOf, bytesOf, keeps, handedBack}
 use Rattle.c_record.specs.Claims.{Holds}
 use Rattle.c_record.proofs.Laws.{event-bytes, ended-bytes, bytes-hold, decode-after-encode, handed-kept, handed-written}
-use Rattle.c_answer.specs.Answer.{packed, answerOf, numberIn, kindIn, replyIn}
+use Rattle.c_answer.specs.Answer.{packed, answerOf, numberIn, kindIn, reasonIn, replyIn}
 use Rattle.tag_c.specs.Calls as c-form
 use Rattle.tag_c.proofs.Calls.{power-fits, power-other, select-fits, select-other, frame-fits, frame-other, load-fits, load-other, save-fits, save-other}
 use Rattle.tag_c.proofs.kz_power.Reads as power-call
 use Rattle.tag_c.proofs.kz_select.Reads as select-call
-use Rattle.runs_c.proofs.Made.{Buffers, held, Loading, buffersOf, Saving, FrameMet, Made, InTurn, logOf, last, callsOf, left}
-use Rattle.runs_c.proofs.Answers.{number-read, reply-read}
-use Rattle.runs_c.proofs.Steps.{Sound, log-run, last-run, loaded-zero, loaded-bytes, loaded-store, loaded-held, loaded-sound}
-
--- ---- demand 3
-
--- the calls ms were made from the buffers b, and then the calls again from the same b
-pub record Forgotten (b : Buffers) (ms again : List Made) : Type 0 where
-  -- each call that stays gets the same number and the same reply, and leaves the same memory
-  pub same : logOf b again ≡ staying tagMachine clean (logOf b ms)
-  -- each call struck out behind another got silence
-  pub silent : Every (λ (e : Entry tagMachine). e .said ≡ silence) (behindOthers tagMachine clean (logOf b ms))
-  -- the stored memory ends equal
-  pub ended : storedOf (held (last b again)) ≡ storedOf (held (last b ms))
-
--- An image is loaded with answer 0, and any calls are made in turn. It is loaded again, into any buffers that take it, and of the calls those are made
--- that stay.
-abbrev pub CallsForget : Type 0
-CallsForget =
-    (l l′ : Loading) → l .number ≡ 0 → l′ .number ≡ 0 → now (l′ .file) ≡ now (l .file) → Bytes (now (l .file))
-    → (ms : List Made) → InTurn (buffersOf l) ms → Every Fit (callsOf ms)
-    → (again : List Made) → InTurn (buffersOf l′) again → callsOf again ≡ remaining tagMachine clean (logOf (buffersOf l) ms)
-    → (buffersOf l′ ≡ buffersOf l) × Forgotten (buffersOf l) ms again
-
--- two loadings of an image leave the same bytes
-same-buffers : (l l′ : Loading) → l .number ≡ 0 → l′ .number ≡ 0 → now (l′ .file) ≡ now (l .file) → buffersOf l′ ≡ buffersOf l
-same-buffers l l′ e e′ file =
-    let i = now (l .file) in
-    let z = loaded-zero l e in
-    let z′ : tag-image.load i (now (l′ .store)) .number ≡ 0 =
-    ap (λ (x : List ℕ). tag-image.load x (now (l′ .store)) .number) (sym file) ∙ loaded-zero l′ e′ in
-    let both : tag-image.load (now (l′ .file)) (now (l′ .store)) ≡ tag-image.load i (now (l .store)) =
-    ap (λ (x : List ℕ). tag-image.load x (now (l′ .store))) file ∙ load-done i (now (l′ .store)) z′ ∙ sym (load-done i (now (l .store)) z) in
-    let bytes = loaded-bytes l′ e′ ∙ ap (λ (x : tag-image.Loaded). bytesOf (x .tag)) both ∙ sym (loaded-bytes l e) in
-    let store = loaded-store l′ e′ ∙ ap (λ (x : tag-image.Loaded). x .store) both ∙ sym (loaded-store l e) in
-    λ k. record { bytes = bytes k; store = store k }
-
--- the calls that remain are among those that were made
-abbrev FitEntry : Entry tagMachine → Type 0
-FitEntry e = Fit (e .call)
-
-log-fit : (b : Buffers) (ms : List Made) → Every Fit (callsOf ms) → Every FitEntry (logOf b ms)
-log-fit b [] h = tt
-log-fit b (m ∷ ms) h = (h .0, log-fit (left b m) ms (h .1))
-
-either : (t : Bool) (e : Entry tagMachine) (es : List (Entry tagMachine)) → FitEntry e → Every FitEntry es → Every FitEntry (cond t (e ∷ es) es)
-either true e es h hs = (h, hs)
-either false e es h hs = hs
-
-having-fit : (test : Fate → Bool) (fs : List Fate) (es : List (Entry tagMachine)) → Every FitEntry es → Every FitEntry (having tagMachine test fs es)
-unfolding having
-having-fit test [] es h = tt
-having-fit test (f ∷ fs) [] h = tt
-having-fit test (f ∷ fs) (e ∷ es) h = either (test f) e (having tagMachine test fs es) (h .0) (having-fit test fs es (h .1))
-
-calls-fit : (es : List (Entry tagMachine)) → Every FitEntry es → Every Fit (map (λ (e : Entry tagMachine). e .call) es)
-calls-fit [] h = tt
-calls-fit (e ∷ es) h = (h .0, calls-fit es (h .1))
-
-remaining-fit : (b : Buffers) (ms : List Made) → Every Fit (callsOf ms) → Every Fit (remaining tagMachine clean (logOf b ms))
-remaining-fit b ms h = calls-fit (staying tagMachine clean (logOf b ms)) (having-fit isStays (fates tagMachine clean (logOf b ms)) (logOf b ms) (log-fit b ms h))
-
-module _ (b : Buffers) (sound : Sound b) (ms again : List Made) (turn : InTurn b ms) (turn′ : InTurn b again) (fit : Every Fit (callsOf ms))
-    (stay : callsOf again ≡ remaining tagMachine clean (logOf b ms)) where
-  run : logOf b ms ≡ log tagMachine (held b) (callsOf ms)
-  run = log-run b ms sound turn fit
-
-  fit′ : Every Fit (callsOf again)
-  fit′ = subst (Every Fit) (sym stay) (remaining-fit b ms fit)
-
-  stays : callsOf again ≡ remaining tagMachine clean (log tagMachine (held b) (callsOf ms))
-  stays = stay ∙ ap (λ (es : List (Entry tagMachine)). remaining tagMachine clean es) run
-
-  forgotten : Forgets tagMachine (held b) (callsOf ms) → Forgotten b ms again
-  forgotten f = record {
-    same =
-        log-run b again sound turn′ fit′ ∙ ap (log tagMachine (held b)) stays ∙ f .again
-        ∙ ap (λ (es : List (Entry tagMachine)). staying tagMachine clean es) (sym run);
-    silent = subst (λ (es : List (Entry tagMachine)). Every (λ (e : Entry tagMachine). e .said ≡ silence) (behindOthers tagMachine clean es)) (sym run) (f .silent);
-    ended =
-        ap storedOf (last-run b again sound turn′ fit′ ∙ ap (end tagMachine (held b)) stays) ∙ f .ended
-        ∙ ap storedOf (sym (last-run b ms sound turn fit));
-  }
-
-pub calls-forget : CallsForget
-calls-forget l l′ e e′ file h ms turn fit again turn′ stay =
-    let same = same-buffers l l′ e e′ file in
-    let claim = subst (λ (b : Box). Forgets tagMachine b (callsOf ms)) (sym (loaded-held l e h))
-    (damage-forgotten (now (l .file)) (now (l .store)) h (loaded-zero l e) (callsOf ms) fit) in
-    (same, forgotten (buffersOf l) (loaded-sound l e h) ms again turn (subst (λ (b : Buffers). InTurn b again) same turn′) fit stay claim)
-
--- ---- demand 1
+use Rattle.runs_c.proofs.Made.{Loading, Saving, FrameMet}
+use Rattle.runs_c.proofs.Answers.{number-read, reason-read, reply-read}
 
 -- a loading that is refused: 10 changes no buffer; 12 writes the zero record, 48 zero bytes, and leaves the store
 abbrev pub LoadRefused : Loading → Type 0
@@ -247,7 +158,13 @@ module _ (κs : Lfts 5) (bytes store f random reply : Slice) (a : ℕ) (bytes′
     (met : FrameMet κs bytes store f random reply a bytes′ store′ reply′) where
   -- what came back, as an outcome of the definition
   abbrev back : Outcome
-  back = record { number = numberIn a; said = heard (replyIn a) (now reply′); tag = recordOf (now bytes′); store = now store′ }
+  back = record {
+    number = numberIn a;
+    said = heard (replyIn a) (now reply′);
+    reason = ruleAt (reasonIn a);
+    tag = recordOf (now bytes′);
+    store = now store′;
+  }
 
   abbrev t : Tag
   t = recordOf (now bytes)
@@ -255,9 +172,9 @@ module _ (κs : Lfts 5) (bytes store f random reply : Slice) (a : ℕ) (bytes′
   abbrev o : Outcome
   o = frame t (now store) (now f) (now random) (length (now reply))
 
-  -- no buffer is changed, and nothing said
+  -- no buffer is changed, nothing said, and no reason told
   abbrev Same : Type 0
-  Same = (now bytes′ ≡ now bytes) × (now store′ ≡ now store) × (now reply′ ≡ now reply) × (replyIn a ≡ Silence)
+  Same = (now bytes′ ≡ now bytes) × (now store′ ≡ now store) × (now reply′ ≡ now reply) × (replyIn a ≡ Silence) × (reasonIn a ≡ 0)
 
   -- every number is in document 01's table, and another length than the record's is 10
   abbrev pub FramesNumbered : Type 0
@@ -277,9 +194,9 @@ module _ (κs : Lfts 5) (bytes store f random reply : Slice) (a : ℕ) (bytes′
   abbrev pub FramesKeep : Type 0
   FramesKeep = (numberIn a ≡ 1) ⊎ (numberIn a ≡ 10) → Same
 
-  ten-read : (numberIn (answerOf 10 Silence) ≡ 10) × (replyIn (answerOf 10 Silence) ≡ Silence)
-  unfolding packed numberIn replyIn kindIn
-  ten-read = (refl, refl)
+  ten-read : (numberIn (answerOf 10 0 Silence) ≡ 10) × (replyIn (answerOf 10 0 Silence) ≡ Silence) × (reasonIn (answerOf 10 0 Silence) ≡ 0)
+  unfolding packed numberIn replyIn kindIn reasonIn
+  ten-read = (refl, refl, refl)
 
   other-length : (length (now bytes) ≡ recordSize → ⊥) → (numberIn a ≡ 10) × Same
   other-length other =
@@ -291,6 +208,7 @@ module _ (κs : Lfts 5) (bytes store f random reply : Slice) (a : ℕ) (bytes′
           met .1 .1 .0 ∙ ap (λ (v : c-form.Framed). v .store) here,
           met .1 .1 .1 ∙ ap (λ (v : c-form.Framed). v .reply) here,
           ap replyIn answer ∙ ten-read .1,
+          ap reasonIn answer ∙ ten-read .2,
         ),
       )
 
@@ -299,11 +217,14 @@ module _ (κs : Lfts 5) (bytes store f random reply : Slice) (a : ℕ) (bytes′
     here : c-form.frame (now bytes) (now store) (now f) (now random) (now reply) ≡ c-form.framed (now bytes) (now store) (now f) (now random) (now reply)
     here = frame-fits (now bytes) long (now store) (now f) (now random) (now reply)
 
-    answer : a ≡ answerOf (o .number) (replyOf (o .said))
+    answer : a ≡ answerOf (o .number) (barredPlace (o .reason)) (replyOf (o .said))
     answer = met .0 ∙ ap (λ (v : c-form.Framed). v .answer) here
 
     number : numberIn a ≡ o .number
     number = ap numberIn answer ∙ number-read t (now store) (now f) (now random) (length (now reply))
+
+    place : reasonIn a ≡ barredPlace (o .reason)
+    place = ap reasonIn answer ∙ reason-read t (now store) (now f) (now random) (length (now reply))
 
     spoken : replyIn a ≡ replyOf (o .said)
     spoken = ap replyIn answer ∙ reply-read t (now store) (now f) (now random) (length (now reply))
@@ -324,6 +245,7 @@ module _ (κs : Lfts 5) (bytes store f random reply : Slice) (a : ℕ) (bytes′
           pages ∙ u .pages,
           laid ∙ ap (laidOver (now reply)) (u .silent),
           spoken ∙ ap replyOf (u .silent),
+          place ∙ ap barredPlace (u .unstopped),
         )
 
     -- number 10 is answered where anything is amiss, so a frame refused otherwise had a record that a tag can have
@@ -357,7 +279,8 @@ module _ (κs : Lfts 5) (bytes store f random reply : Slice) (a : ℕ) (bytes′
           (λ i. heard (spoken i) (laid i)) ∙ heard-said (now reply) (o .said) (said-fits t (now store) (now f) (now random) (length (now reply))) in
           let tag : recordOf (now bytes′) ≡ o .tag =
           ap recordOf (handed ∙ handed-written (o .number) (o .tag) (now bytes) k) ∙ decode-after-encode (o .tag) ended-holds ended-known in
-          λ i. record { number = number i; said = said i; tag = tag i; store = pages i }
+          let reason : ruleAt (reasonIn a) ≡ o .reason = ap ruleAt place ∙ place-tells-rule (o .reason) in
+          λ i. record { number = number i; said = said i; reason = reason i; tag = tag i; store = pages i }
 
     keeps-not : (n : ℕ) → (n ≡ 1 → ⊥) → (n ≡ 10 → ⊥) → keeps n ≡ false
     unfolding keeps
@@ -406,3 +329,28 @@ module _ (κs : Lfts 5) (bytes store f random reply : Slice) (a : ℕ) (bytes′
           → Ended t (now store) back × EndedBytes × (replyIn a ≡ Nibble (nibbleOf (numberIn a))) × (now reply′ ≡ now reply)
       by (yes long) = refused-so long ok n0 n1 n10
       by (no other) = absurd (n10 (other-length other .0))
+
+  -- request E6: at a WRITE answered 6 or 7 the place of the first rule that applies, and 0 at every other answer
+  abbrev pub FramesSayWhy : Type 0
+  FramesSayWhy =
+      (getD (now f) 0 0 ≡ codeOf Write → (numberIn a ≡ 6) ⊎ (numberIn a ≡ 7)
+      → (reasonIn a ≡ firstRule mf0aes20 (t .state) (now store) (getD (now f) 1 0) (data4 (now f))) × (1 ≤ reasonIn a))
+      × ((getD (now f) 0 0 ≡ codeOf Write → ⊥) ⊎ ((numberIn a ≡ 6 → ⊥) × (numberIn a ≡ 7 → ⊥)) → reasonIn a ≡ 0)
+
+  no-ten : (numberIn a ≡ 6) ⊎ (numberIn a ≡ 7) → numberIn a ≡ 10 → ⊥
+  no-ten (inl h) e = omega arith
+  no-ten (inr h) e = omega arith
+
+  pub frames-say-why : FramesSayWhy
+  frames-say-why = by (ℕ-discrete (length (now bytes)) recordSize)
+    where
+      by : Dec (length (now bytes) ≡ recordSize) → FramesSayWhy
+      by (yes long) = (
+        λ code n. let w =
+            first-rule-told t (now store) (now f) (now random) (length (now reply)) code (subst (λ (k : ℕ). (k ≡ 6) ⊎ (k ≡ 7)) (number long) n) in
+            (place long ∙ w .rule, subst (λ (k : ℕ). 1 ≤ k) (sym (place long)) (w .placed)),
+        λ other. place long
+            ∙ no-other-reason t (now store) (now f) (now random) (length (now reply))
+            (subst (λ (k : ℕ). (getD (now f) 0 0 ≡ codeOf Write → ⊥) ⊎ ((k ≡ 6 → ⊥) × (k ≡ 7 → ⊥))) (number long) other),
+      )
+      by (no other) = (λ code n. absurd (no-ten n (other-length other .0)), λ _. other-length other .1 .4)
