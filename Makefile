@@ -10,7 +10,7 @@ test:
 	.ci/run
 
 lib:
-	rt staticlib tag_c
+	host/library.sh
 	@echo 'library: target/staticlib/libtag_c.a'
 	@echo 'header:  include/kazdumera.h'
 	@echo 'guide:   docs/C-FORM.md'

@@ -243,6 +243,8 @@ AUTH_LIM_0028 = page(0x2A, [0x0C, 0x05, 0x28, 0x00])
 AUTH0_04 = page(0x29, [0x00, 0x00, 0x00, 0x04])
 RANDOM_ID = page(0x29, [0x01, 0x00, 0x00, 0x3C])
 TABLE_KEY_PAGES = page(0x30, TABLE_KEY)
+# the base image's DataProtKey: its byte 0 lies last
+BASE_KEY = stored(0x30, 0x33)[::-1]
 # the proof with the last bit of the last byte wrong
 FALSE_PROOF = cbc(TABLE_KEY, RND_A + rotated(RND_B)[:15] + bytes([rotated(RND_B)[15] ^ 0x01]))
 # Table 17's step 3 with one bit of its ciphertext changed and the CRC kept
@@ -381,37 +383,49 @@ FRAMES = [
 OTP = hexed("0f1e2d3c")
 OTP_PAGE = page(0x03, OTP)
 
+
+# the changes of an image in which no two pages are alike: the base image has zeros in three
+def apart(*changes):
+    whole = (OTP_PAGE, page(0x28, [0x00, 0x00, 0x00, 0x28]), page(0x2D, [0x00, 0x00, 0x00, 0x2D])) + changes
+    store = bytearray(STORE)
+    for _, first, data_bytes in whole:
+        store[4 * first:4 * first + len(data_bytes)] = data_bytes
+    assert len({bytes(store[at:at + 4]) for at in range(0, 240, 4)}) == 60
+    return list(whole)
+
+
+
 READING = [
     ("readSerial", "READ 00h in ACTIVE without Random ID shows all.", [locks(0x10, 0x20), page(0x03, hexed("0f1e2d3c"))],
      each(sent(read(0x00), 0, data(stored(0x00, 0x01) + stored(0x02, 0x02)[:2] + hexed("10200f1e2d3c")))), [], "Active"),
     ("readPastEnd", "READ 3Ch and FFh: 5.", [], each(sent(read(0x3C), 5), sent(read(0xFF), 5)), [], "Waiting"),
-    ("readWraps", "READ 39h, 3Ah and 3Bh continue at page 00h behind page 3Bh.", [],
+    ("readWraps", "READ 39h, 3Ah and 3Bh continue at page 00h behind page 3Bh.", apart(),
      each(sent(read(0x39), 0, data(pages_of(0x39, 0x3A, 0x3B, 0x00))), sent(read(0x3A), 0, data(pages_of(0x3A, 0x3B, 0x00, 0x01))),
           sent(read(0x3B), 0, data(pages_of(0x3B, 0x00, 0x01, 0x02)))), [], "Active"),
     ("readWrapsAtAuth0", "AUTH0 04h with PROT: READ 03h, 02h and 01h continue at page 00h behind page 03h, READ 00h fits, READ 04h is 6.",
-     [OTP_PAGE, AUTH0_04, PROT],
+     apart(AUTH0_04, PROT),
      each(sent(read(0x03), 0, data(OTP + stored(0x00, 0x02))), sent(read(0x02), 0, data(stored(0x02, 0x02) + OTP + stored(0x00, 0x01))),
           sent(read(0x01), 0, data(stored(0x01, 0x02) + OTP + stored(0x00, 0x00))), sent(read(0x00), 0, data(stored(0x00, 0x02) + OTP)),
           sent(read(0x04), 6)), [], "Waiting"),
-    ("readWrapsAt03", "AUTH0 03h with PROT: READ 02h begins again at page 02h.", [auth0(0x03), PROT],
+    ("readWrapsAt03", "AUTH0 03h with PROT: READ 02h begins again at page 02h.", apart(auth0(0x03), PROT),
      each(sent(read(0x02), 0, data(pages_of(0x02, 0x00, 0x01, 0x02))), sent(read(0x00), 0, data(pages_of(0x00, 0x01, 0x02, 0x00)))), [], "Active"),
-    ("readWrapsTwice", "AUTH0 02h with PROT: READ 01h continues at page 00h twice, READ 00h once, READ 02h is 6.", [auth0(0x02), PROT],
+    ("readWrapsTwice", "AUTH0 02h with PROT: READ 01h continues at page 00h twice, READ 00h once, READ 02h is 6.", apart(auth0(0x02), PROT),
      each(sent(read(0x01), 0, data(pages_of(0x01, 0x00, 0x01, 0x00))), sent(read(0x00), 0, data(pages_of(0x00, 0x01, 0x00, 0x01))),
           sent(read(0x02), 6)), [], "Waiting"),
-    ("readOnePage", "AUTH0 01h with PROT: READ 00h gives page 00h four times, READ 01h is 6.", [auth0(0x01), PROT],
+    ("readOnePage", "AUTH0 01h with PROT: READ 00h gives page 00h four times, READ 01h is 6.", apart(auth0(0x01), PROT),
      each(sent(read(0x00), 0, data(stored(0x00, 0x00) * 4)), sent(read(0x01), 6)), [], "Waiting"),
     ("readNoPage", "AUTH0 00h with PROT: READ 00h, 38h and 3Bh are 6.", [auth0(0x00), PROT],
      each(sent(read(0x00), 6), sent(read(0x38), 6), sent(read(0x3B), 6)), [], "Waiting"),
-    ("readWrapsNoProt", "AUTH0 04h without PROT: READ 03h doesn't end at AUTH0, and READ 3Bh continues behind page 3Bh.", [OTP_PAGE, AUTH0_04],
+    ("readWrapsNoProt", "AUTH0 04h without PROT: READ 03h doesn't end at AUTH0, and READ 3Bh continues behind page 3Bh.", apart(AUTH0_04),
      each(sent(read(0x03), 0, data(OTP + stored(0x04, 0x06))), sent(read(0x3B), 0, data(pages_of(0x3B, 0x00, 0x01, 0x02)))), [], "Active"),
     ("readWrapsRandomId", "Random ID on, ACTIVE: READ 39h and 3Bh show the nine bytes as zeros behind page 3Bh.",
-     [RANDOM_ID, locks(0x10, 0x20)],
+     apart(RANDOM_ID, locks(0x10, 0x20)),
      each(sent(read(0x39), 0, data(stored(0x39, 0x3B) + bytes(4))),
           sent(read(0x3B), 0, data(stored(0x3B, 0x3B) + bytes(9) + bytes([INTERNAL, 0x10, 0x20])))), [], "Active"),
-    ("readWrapsRandomIdAuth0", "The same before AUTH0 04h with PROT: READ 03h and 02h.", [auth0(0x04, 0x01), PROT, locks(0x10, 0x20), OTP_PAGE],
+    ("readWrapsRandomIdAuth0", "The same before AUTH0 04h with PROT: READ 03h and 02h.", apart(auth0(0x04, 0x01), PROT, locks(0x10, 0x20)),
      each(sent(read(0x03), 0, data(OTP + bytes(9) + bytes([INTERNAL, 0x10, 0x20]))),
           sent(read(0x02), 0, data(bytes([0x00, INTERNAL, 0x10, 0x20]) + OTP + bytes(8)))), [], "Active"),
-    ("readWrapsKeys", "AUTH0 38h with PROT: READ 36h shows the key pages as zeros, then pages 00h and 01h.", [auth0(0x38), PROT],
+    ("readWrapsKeys", "AUTH0 38h with PROT: READ 36h shows the key pages as zeros, then pages 00h and 01h.", apart(auth0(0x38), PROT),
      each(sent(read(0x36), 0, data(bytes(8) + stored(0x00, 0x01)))), [], "Active"),
     ("fastReadPastEnd", "FAST_READ 3Bh to 3Ch, 3Ch to 3Ch and 00h to FFh: 5.", [],
      each(sent(fast_read(0x3B, 0x3C), 5), sent(fast_read(0x3C, 0x3C), 5), sent(fast_read(0x00, 0xFF), 5)), [], "Waiting"),
@@ -712,10 +726,11 @@ LOGINS = [
      [TABLE_KEY_PAGES, AUTH_LIM_0102, failed(0x0101)],
      [TO_ACTIVE, sent([0x1A, 0x00], 0, data(b"\xaf" + STEP_2), RND_B), sent(b"\xaf" + FALSE_PROOF, 8), sent([0x30, 0x04], 1)],
      [failed(0x0102)], "Waiting"),
-    ("readAfterLogin", "AUTH0 04h with PROT: READ 03h continues at page 00h; after a login READ 03h and 04h don't end at AUTH0.",
-     [OTP_PAGE, AUTH0_04, PROT, TABLE_KEY_PAGES],
-     [TO_ACTIVE, sent(read(0x03), 0, data(OTP + stored(0x00, 0x02))), part_1(0, TABLE_KEY, RND_B), part_2(TABLE_KEY, RND_A, RND_B),
-      sent(read(0x03), 0, data(OTP + stored(0x04, 0x06))), sent(read(0x04), 0, data(stored(0x04, 0x07)))], [], "Authenticated"),
+    ("readAfterLogin", "AUTH0 04h with PROT: READ 03h continues at page 00h; after a login READ 02h, 03h and 04h don't end at AUTH0.",
+     apart(AUTH0_04, PROT),
+     [TO_ACTIVE, sent(read(0x03), 0, data(OTP + stored(0x00, 0x02))), part_1(0, BASE_KEY, RND_B), part_2(BASE_KEY, RND_A, RND_B),
+      sent(read(0x02), 0, data(stored(0x02, 0x02) + OTP + stored(0x04, 0x05))), sent(read(0x03), 0, data(OTP + stored(0x04, 0x06))),
+      sent(read(0x04), 0, data(stored(0x04, 0x07)))], [], "Authenticated"),
     ("garbledProof", "Table 17's proof with one bit changed and the CRC kept, AUTH_LIM 0102h: 2, and the count stays.",
      [TABLE_KEY_PAGES, AUTH_LIM_0102, failed(0x0101)],
      [TO_ACTIVE, sent([0x1A, 0x00], 0, data(b"\xaf" + STEP_2), RND_B), framed(GARBLED, 2)], [], "Waiting"),
@@ -778,10 +793,10 @@ BEGUN = [
       sent(read_cnt(2), 0, data(hexed("563412"))), sent(incr_cnt(2, "01000000"), 0)], [page(0x04, hexed("11223344")), counter(2, 0x123457)],
      "Authenticated"),
     ("Authenticated", NO_CHALLENGE, "authenticatedWraps",
-     "AUTHENTICATED, AUTH0 04h with PROT, Random ID on: READ 03h and 04h don't end at AUTH0, and READ 3Bh shows pages 00h to 02h.",
-     [OTP_PAGE, auth0(0x04, 0x01), PROT],
-     [sent(read(0x03), 0, data(OTP + stored(0x04, 0x06))), sent(read(0x04), 0, data(stored(0x04, 0x07))),
-      sent(read(0x3B), 0, data(pages_of(0x3B, 0x00, 0x01, 0x02)))], [], "Authenticated"),
+     "AUTHENTICATED, AUTH0 04h with PROT, Random ID on: READ 02h, 03h and 04h don't end at AUTH0, and READ 3Bh shows pages 00h to 02h.",
+     apart(auth0(0x04, 0x01), PROT),
+     [sent(read(0x02), 0, data(stored(0x02, 0x02) + OTP + stored(0x04, 0x05))), sent(read(0x03), 0, data(OTP + stored(0x04, 0x06))),
+      sent(read(0x04), 0, data(stored(0x04, 0x07))), sent(read(0x3B), 0, data(pages_of(0x3B, 0x00, 0x01, 0x02)))], [], "Authenticated"),
     ("Authenticated", NO_CHALLENGE, "authenticatedLocked", "AUTHENTICATED: a locked page is 7.", [locks(0x10, 0x00)],
      [stopped(3, write(0x04, "11223344"), 7)], [], "Waiting"),
     ("Authenticated", NO_CHALLENGE, "authenticatedLockReason", "AUTHENTICATED, AUTH0 04h: a locked page is stopped by its own lock bit.",
@@ -794,7 +809,7 @@ BEGUN = [
     ("Traceable", NO_CHALLENGE, "traceableRead", "TRACEABLE, AUTH0 04h with PROT: READ 04h is 6.", [AUTH0_04, PROT], [sent(read(0x04), 6)], [],
      "Waiting"),
     ("Traceable", NO_CHALLENGE, "traceableWraps", "TRACEABLE, AUTH0 04h with PROT, Random ID on: READ 03h continues at page 00h and shows it.",
-     [OTP_PAGE, auth0(0x04, 0x01), PROT], [sent(read(0x03), 0, data(OTP + stored(0x00, 0x02)))], [], "Traceable"),
+     apart(auth0(0x04, 0x01), PROT), [sent(read(0x03), 0, data(OTP + stored(0x00, 0x02)))], [], "Traceable"),
     ("Traceable", NO_CHALLENGE, "traceableWrite", "TRACEABLE, AUTH0 04h: WRITE 04h is 6.", [AUTH0_04], [stopped(1, write(0x04, "11223344"), 6)], [],
      "Waiting"),
     ("Traceable", NO_CHALLENGE, "traceableReadCnt", "TRACEABLE, counter 2 closed: READ_CNT 2 is 6.", [CLOSED], [sent(read_cnt(2), 6)], [],

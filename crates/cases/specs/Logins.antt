@@ -80,22 +80,24 @@ falseProof = record {
   state = Waiting;
 }
 
--- AUTH0 04h with PROT: READ 03h continues at page 00h; after a login READ 03h and 04h don't end at AUTH0.
+-- AUTH0 04h with PROT: READ 03h continues at page 00h; after a login READ 02h, 03h and 04h don't end at AUTH0.
 abbrev pub readAfterLogin : Case
 readAfterLogin = record {
   image =
       patched base (
       page 0x03 (hex 4 0x0f1e2d3c) ∷
+      page 0x28 (hex 4 0x00000028) ∷
+      page 0x2d (hex 4 0x0000002d) ∷
       page 0x29 (hex 4 0x00000004) ∷
-      page 0x2a (hex 4 0x8c050000) ∷
-      page 0x30 (hex 16 0x00000000_00000000_00000000_00000000) ∷ []);
+      page 0x2a (hex 4 0x8c050000) ∷ []);
   lines =
       toActive ++ (
       sent (hex 4 0x3003_999a) 0 (bytes (hex 18 0x0f1e2d3c_04512cf1_5a93c71e_10480000_0443)) ∷
       sentWith (hex 16 0x1ae4174ca173ebbc59165cebe2f20821) (hex 4 0x1a00_4176) 0
-      (bytes (hex 19 0xaf_d5a847b84862ff3874a7f07b8ddf351b_87e7)) ∷
-      sent (hex 35 0xaf_cdf22c5f7a92f0af0155612b9b236ac7_a424bc5238d41ad041b8165b7d99e524_334a) 0
-      (bytes (hex 19 0x00_2c743d6b1e128f8076bd197b76012ce8_6bb3)) ∷
+      (bytes (hex 19 0xaf_883679599e5ee5f1e70be41b96490f11_63b9)) ∷
+      sent (hex 35 0xaf_2dc2aa5890d43381bd4b2a035bbcc062_3944bacffed8494c169d15264159e923_7cf8) 0
+      (bytes (hex 19 0x00_f7e413c375ed882ab501f816e221f897_fd6d)) ∷
+      sent (hex 4 0x3002_108b) 0 (bytes (hex 18 0x10480000_0f1e2d3c_04fb1d35_05fa2442_8d45)) ∷
       sent (hex 4 0x3003_999a) 0 (bytes (hex 18 0x0f1e2d3c_04fb1d35_05fa2442_06f92b4f_faa8)) ∷
       sent (hex 4 0x3004_26ee) 0 (bytes (hex 18 0x04fb1d35_05fa2442_06f92b4f_07f8325c_8919)) ∷ []);
   changed = [];

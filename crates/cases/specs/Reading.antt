@@ -32,7 +32,7 @@ readPastEnd = record {
 -- READ 39h, 3Ah and 3Bh continue at page 00h behind page 3Bh.
 abbrev pub readWraps : Case
 readWraps = record {
-  image = base;
+  image = patched base (page 0x03 (hex 4 0x0f1e2d3c) ∷ page 0x28 (hex 4 0x00000028) ∷ page 0x2d (hex 4 0x0000002d) ∷ []);
   lines =
       toActive ++ (
       sent (hex 4 0x3039_4004) 0 (bytes (hex 18 0x39c69513_3ac59c20_3bc4a32d_04512cf1_65e7)) ∷
@@ -45,7 +45,13 @@ readWraps = record {
 -- AUTH0 04h with PROT: READ 03h, 02h and 01h continue at page 00h behind page 03h, READ 00h fits, READ 04h is 6.
 abbrev pub readWrapsAtAuth0 : Case
 readWrapsAtAuth0 = record {
-  image = patched base (page 0x03 (hex 4 0x0f1e2d3c) ∷ page 0x29 (hex 4 0x00000004) ∷ page 0x2a (hex 4 0x8c050000) ∷ []);
+  image =
+      patched base (
+      page 0x03 (hex 4 0x0f1e2d3c) ∷
+      page 0x28 (hex 4 0x00000028) ∷
+      page 0x2d (hex 4 0x0000002d) ∷
+      page 0x29 (hex 4 0x00000004) ∷
+      page 0x2a (hex 4 0x8c050000) ∷ []);
   lines =
       toActive ++ (
       sent (hex 4 0x3003_999a) 0 (bytes (hex 18 0x0f1e2d3c_04512cf1_5a93c71e_10480000_0443)) ∷
@@ -60,7 +66,13 @@ readWrapsAtAuth0 = record {
 -- AUTH0 03h with PROT: READ 02h begins again at page 02h.
 abbrev pub readWrapsAt03 : Case
 readWrapsAt03 = record {
-  image = patched base (page 0x29 (hex 4 0x00000003) ∷ page 0x2a (hex 4 0x8c050000) ∷ []);
+  image =
+      patched base (
+      page 0x03 (hex 4 0x0f1e2d3c) ∷
+      page 0x28 (hex 4 0x00000028) ∷
+      page 0x2d (hex 4 0x0000002d) ∷
+      page 0x29 (hex 4 0x00000003) ∷
+      page 0x2a (hex 4 0x8c050000) ∷ []);
   lines =
       toActive ++ (
       sent (hex 4 0x3002_108b) 0 (bytes (hex 18 0x10480000_04512cf1_5a93c71e_10480000_9392)) ∷
@@ -72,7 +84,13 @@ readWrapsAt03 = record {
 -- AUTH0 02h with PROT: READ 01h continues at page 00h twice, READ 00h once, READ 02h is 6.
 abbrev pub readWrapsTwice : Case
 readWrapsTwice = record {
-  image = patched base (page 0x29 (hex 4 0x00000002) ∷ page 0x2a (hex 4 0x8c050000) ∷ []);
+  image =
+      patched base (
+      page 0x03 (hex 4 0x0f1e2d3c) ∷
+      page 0x28 (hex 4 0x00000028) ∷
+      page 0x2d (hex 4 0x0000002d) ∷
+      page 0x29 (hex 4 0x00000002) ∷
+      page 0x2a (hex 4 0x8c050000) ∷ []);
   lines =
       toActive ++ (
       sent (hex 4 0x3001_8bb9) 0 (bytes (hex 18 0x5a93c71e_04512cf1_5a93c71e_04512cf1_78d4)) ∷
@@ -85,7 +103,13 @@ readWrapsTwice = record {
 -- AUTH0 01h with PROT: READ 00h gives page 00h four times, READ 01h is 6.
 abbrev pub readOnePage : Case
 readOnePage = record {
-  image = patched base (page 0x29 (hex 4 0x00000001) ∷ page 0x2a (hex 4 0x8c050000) ∷ []);
+  image =
+      patched base (
+      page 0x03 (hex 4 0x0f1e2d3c) ∷
+      page 0x28 (hex 4 0x00000028) ∷
+      page 0x2d (hex 4 0x0000002d) ∷
+      page 0x29 (hex 4 0x00000001) ∷
+      page 0x2a (hex 4 0x8c050000) ∷ []);
   lines =
       toActive ++ (
       sent (hex 4 0x3000_02a8) 0 (bytes (hex 18 0x04512cf1_04512cf1_04512cf1_04512cf1_d504)) ∷
@@ -110,7 +134,12 @@ readNoPage = record {
 -- AUTH0 04h without PROT: READ 03h doesn't end at AUTH0, and READ 3Bh continues behind page 3Bh.
 abbrev pub readWrapsNoProt : Case
 readWrapsNoProt = record {
-  image = patched base (page 0x03 (hex 4 0x0f1e2d3c) ∷ page 0x29 (hex 4 0x00000004) ∷ []);
+  image =
+      patched base (
+      page 0x03 (hex 4 0x0f1e2d3c) ∷
+      page 0x28 (hex 4 0x00000028) ∷
+      page 0x2d (hex 4 0x0000002d) ∷
+      page 0x29 (hex 4 0x00000004) ∷ []);
   lines =
       toActive ++ (
       sent (hex 4 0x3003_999a) 0 (bytes (hex 18 0x0f1e2d3c_04fb1d35_05fa2442_06f92b4f_faa8)) ∷
@@ -122,7 +151,13 @@ readWrapsNoProt = record {
 -- Random ID on, ACTIVE: READ 39h and 3Bh show the nine bytes as zeros behind page 3Bh.
 abbrev pub readWrapsRandomId : Case
 readWrapsRandomId = record {
-  image = patched base (page 0x29 (hex 4 0x0100003c) ∷ page 0x02 (hex 4 0x10481020) ∷ []);
+  image =
+      patched base (
+      page 0x03 (hex 4 0x0f1e2d3c) ∷
+      page 0x28 (hex 4 0x00000028) ∷
+      page 0x2d (hex 4 0x0000002d) ∷
+      page 0x29 (hex 4 0x0100003c) ∷
+      page 0x02 (hex 4 0x10481020) ∷ []);
   lines =
       toActive ++ (
       sent (hex 4 0x3039_4004) 0 (bytes (hex 18 0x39c69513_3ac59c20_3bc4a32d_00000000_2320)) ∷
@@ -136,10 +171,12 @@ abbrev pub readWrapsRandomIdAuth0 : Case
 readWrapsRandomIdAuth0 = record {
   image =
       patched base (
+      page 0x03 (hex 4 0x0f1e2d3c) ∷
+      page 0x28 (hex 4 0x00000028) ∷
+      page 0x2d (hex 4 0x0000002d) ∷
       page 0x29 (hex 4 0x01000004) ∷
       page 0x2a (hex 4 0x8c050000) ∷
-      page 0x02 (hex 4 0x10481020) ∷
-      page 0x03 (hex 4 0x0f1e2d3c) ∷ []);
+      page 0x02 (hex 4 0x10481020) ∷ []);
   lines =
       toActive ++ (
       sent (hex 4 0x3003_999a) 0 (bytes (hex 18 0x0f1e2d3c_00000000_00000000_00481020_cf87)) ∷
@@ -151,7 +188,13 @@ readWrapsRandomIdAuth0 = record {
 -- AUTH0 38h with PROT: READ 36h shows the key pages as zeros, then pages 00h and 01h.
 abbrev pub readWrapsKeys : Case
 readWrapsKeys = record {
-  image = patched base (page 0x29 (hex 4 0x00000038) ∷ page 0x2a (hex 4 0x8c050000) ∷ []);
+  image =
+      patched base (
+      page 0x03 (hex 4 0x0f1e2d3c) ∷
+      page 0x28 (hex 4 0x00000028) ∷
+      page 0x2d (hex 4 0x0000002d) ∷
+      page 0x29 (hex 4 0x00000038) ∷
+      page 0x2a (hex 4 0x8c050000) ∷ []);
   lines = toActive ++ (sent (hex 4 0x3036_b7fc) 0 (bytes (hex 18 0x00000000_00000000_04512cf1_5a93c71e_7d83)) ∷ []);
   changed = [];
   state = Active;

@@ -209,11 +209,18 @@ authenticatedOpens = begun Authenticated zeros record {
   state = Authenticated;
 }
 
--- AUTHENTICATED, AUTH0 04h with PROT, Random ID on: READ 03h and 04h don't end at AUTH0, and READ 3Bh shows pages 00h to 02h.
+-- AUTHENTICATED, AUTH0 04h with PROT, Random ID on: READ 02h, 03h and 04h don't end at AUTH0, and READ 3Bh shows pages 00h to 02h.
 abbrev pub authenticatedWraps : Direct
 authenticatedWraps = begun Authenticated zeros record {
-  image = patched base (page 0x03 (hex 4 0x0f1e2d3c) ∷ page 0x29 (hex 4 0x01000004) ∷ page 0x2a (hex 4 0x8c050000) ∷ []);
+  image =
+      patched base (
+      page 0x03 (hex 4 0x0f1e2d3c) ∷
+      page 0x28 (hex 4 0x00000028) ∷
+      page 0x2d (hex 4 0x0000002d) ∷
+      page 0x29 (hex 4 0x01000004) ∷
+      page 0x2a (hex 4 0x8c050000) ∷ []);
   lines =
+      sent (hex 4 0x3002_108b) 0 (bytes (hex 18 0x10480000_0f1e2d3c_04fb1d35_05fa2442_8d45)) ∷
       sent (hex 4 0x3003_999a) 0 (bytes (hex 18 0x0f1e2d3c_04fb1d35_05fa2442_06f92b4f_faa8)) ∷
       sent (hex 4 0x3004_26ee) 0 (bytes (hex 18 0x04fb1d35_05fa2442_06f92b4f_07f8325c_8919)) ∷
       sent (hex 4 0x303b_5227) 0 (bytes (hex 18 0x3bc4a32d_04512cf1_5a93c71e_10480000_477e)) ∷ [];
@@ -271,7 +278,13 @@ traceableRead = begun Traceable zeros record {
 -- TRACEABLE, AUTH0 04h with PROT, Random ID on: READ 03h continues at page 00h and shows it.
 abbrev pub traceableWraps : Direct
 traceableWraps = begun Traceable zeros record {
-  image = patched base (page 0x03 (hex 4 0x0f1e2d3c) ∷ page 0x29 (hex 4 0x01000004) ∷ page 0x2a (hex 4 0x8c050000) ∷ []);
+  image =
+      patched base (
+      page 0x03 (hex 4 0x0f1e2d3c) ∷
+      page 0x28 (hex 4 0x00000028) ∷
+      page 0x2d (hex 4 0x0000002d) ∷
+      page 0x29 (hex 4 0x01000004) ∷
+      page 0x2a (hex 4 0x8c050000) ∷ []);
   lines = sent (hex 4 0x3003_999a) 0 (bytes (hex 18 0x0f1e2d3c_04512cf1_5a93c71e_10480000_0443)) ∷ [];
   changed = [];
   state = Traceable;
