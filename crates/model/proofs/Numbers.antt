@@ -3,7 +3,8 @@
 --   first-is, numberIf-is     what holds of the numbers that checks can give holds of the one they give
 --   numbers-of-command        what holds of each number that a command can get holds of the one it gets
 --   numbers-of-earlier, numbers-of-frame     the same for the checks before a command's own, and for a frame
---   done-number               a command that is carried out is answered 0
+--   told-done                 a command that is carried out is answered 0, and has no reason
+--   concluded-not             a number that is not 0 ends it there
 --   decide-number             what a frame comes to has the frame's number
 --   decide-done, decide-not   what it is where the number is 0, and where it is not
 --
@@ -134,21 +135,23 @@ numbers-of-frame m tag s f random room P h =
 
 -- ---- what a frame comes to, by its number
 
-command-done-number : (c : Command) (m : Map) (tag : Tag) (s f random : List ℕ) → commandDone c m tag s f random .number ≡ 0
+command-done : (c : Command) (m : Map) (tag : Tag) (s f random : List ℕ) → let d = commandDone c m tag s f random in
+    (d .number ≡ 0) × (d .reason ≡ Open)
 unfolding commandDone answered acknowledged challenged proved halted
-command-done-number Read m tag s f random = refl
-command-done-number FastRead m tag s f random = refl
-command-done-number Write m tag s f random = refl
-command-done-number ReadCnt m tag s f random = refl
-command-done-number IncrCnt m tag s f random = refl
-command-done-number Authenticate m tag s f random = refl
-command-done-number Proof m tag s f random = refl
-command-done-number Halt m tag s f random = refl
+command-done Read m tag s f random = (refl, refl)
+command-done FastRead m tag s f random = (refl, refl)
+command-done Write m tag s f random = (refl, refl)
+command-done ReadCnt m tag s f random = (refl, refl)
+command-done IncrCnt m tag s f random = (refl, refl)
+command-done Authenticate m tag s f random = (refl, refl)
+command-done Proof m tag s f random = (refl, refl)
+command-done Halt m tag s f random = (refl, refl)
 
-pub done-number : (t : Told) (m : Map) (tag : Tag) (s f random : List ℕ) → toldDone t m tag s f random .number ≡ 0
+pub told-done : (t : Told) (m : Map) (tag : Tag) (s f random : List ℕ) → let d = toldDone t m tag s f random in
+    (d .number ≡ 0) × (d .reason ≡ Open)
 unfolding halted
-done-number (Known c k) m tag s f random = command-done-number c m tag s f random
-done-number Nothing m tag s f random = refl
+told-done (Known c k) m tag s f random = command-done c m tag s f random
+told-done Nothing m tag s f random = (refl, refl)
 
 not-done-number : (m : Map) (tag : Tag) (s : List ℕ) (n : ℕ) (b : Barred) → notDone m tag s n b .number ≡ n
 unfolding notDone kept refused
@@ -167,9 +170,9 @@ pub decide-number : (m : Map) (tag : Tag) (s f random : List ℕ) (room : ℕ)
 decide-number m tag s f random room =
     ap (λ (d : Decision). d .number) (decide-parts m tag s f random room)
     ∙ concluded-number (frameNumber m tag s f random room) (frameReason m tag s f random room) m tag s (toldDone (told (getD f 0 0)) m tag s f random)
-    (done-number (told (getD f 0 0)) m tag s f random)
+    (told-done (told (getD f 0 0)) m tag s f random .0)
 
-concluded-not : (n : ℕ) (b : Barred) (m : Map) (tag : Tag) (s : List ℕ) (d : Decision) → (n ≡ 0 → ⊥) → concluded n b m tag s d ≡ notDone m tag s n b
+pub concluded-not : (n : ℕ) (b : Barred) (m : Map) (tag : Tag) (s : List ℕ) (d : Decision) → (n ≡ 0 → ⊥) → concluded n b m tag s d ≡ notDone m tag s n b
 concluded-not zero b m tag s d h = absurd (h refl)
 concluded-not (suc n) b m tag s d h = refl
 

@@ -17,23 +17,21 @@ use Rattle.model.specs.declared.Map.{Map}
 use Rattle.model.specs.declared.Tag.{Tag}
 use Rattle.model.specs.declared.Barred.{Barred}
 use Rattle.model.specs.declared.Barred.the-variants.{Open, Auth0, RandomId, OwnLock, PairLock, KeyLock, ConfigLock}
-use Rattle.model.specs.declared.Command.{Command}
 use Rattle.model.specs.declared.Command.the-variants.{Read, FastRead, Write, ReadCnt, IncrCnt, Authenticate, Proof, Halt}
 use Rattle.model.specs.declared.Told.{Told}
 use Rattle.model.specs.declared.Told.the-variants.{Known, Nothing}
 use Rattle.model.specs.declared.Effect.{Effect}
 use Rattle.model.specs.declared.Decision.{Decision}
 use Rattle.model.specs.Map.{mf0aes20}
-use Rattle.model.specs.Numbers.{numberIf, first, kept, refused, answered, acknowledged}
+use Rattle.model.specs.Numbers.{numberIf, first, kept, refused}
 use Rattle.model.specs.Telling.{codeOf, told}
 use Rattle.model.specs.Writing.{pageBars, auth0Bars, randomIdBars, ownLockBars, pairLockBars, keyLockBars, configLockBars}
 use Rattle.model.specs.Writing.{barred, barredNumber, barredPlace, writeNumber}
-use Rattle.model.specs.Authentication.{challenged, proved}
-use Rattle.model.specs.Frame.{data4, commandReason, commandNumber, commandDone, halted, notDone, concluded}
+use Rattle.model.specs.Frame.{data4, commandReason, commandNumber, commandDone, notDone, concluded}
 use Rattle.model.specs.Frame.{earlierNumber, decide, frame}
-use Rattle.model.specs.ReasonClaims.{RuleOrder, WriteStopped, FirstRuleTold, NoOtherReason, PlaceTellsRule}
+use Rattle.model.specs.ReasonClaims.{RuleOrder, FirstRuleTold, NoOtherReason, PlaceTellsRule}
 use Rattle.model.proofs.Parts.{toldCommandNumber, toldCommandReason, toldDone, frameNumber, reasonBehind, frameReason, decide-parts}
-use Rattle.model.proofs.Numbers.{decide-number, numbers-of-earlier}
+use Rattle.model.proofs.Numbers.{told-done, decide-number, numbers-of-earlier}
 use Rattle.model.proofs.Telling.{told-code}
 
 -- ---- the judge of a write
@@ -77,22 +75,6 @@ place-small OwnLock = omega arith
 place-small PairLock = omega arith
 place-small KeyLock = omega arith
 place-small ConfigLock = omega arith
-
-done-open : (c : Command) (m : Map) (tag : Tag) (s f random : List ℕ) → commandDone c m tag s f random .reason ≡ Open
-unfolding commandDone answered acknowledged challenged proved halted
-done-open Read m tag s f random = refl
-done-open FastRead m tag s f random = refl
-done-open Write m tag s f random = refl
-done-open ReadCnt m tag s f random = refl
-done-open IncrCnt m tag s f random = refl
-done-open Authenticate m tag s f random = refl
-done-open Proof m tag s f random = refl
-done-open Halt m tag s f random = refl
-
-told-done-open : (t : Told) (m : Map) (tag : Tag) (s f random : List ℕ) → toldDone t m tag s f random .reason ≡ Open
-unfolding halted
-told-done-open (Known c k) m tag s f random = done-open c m tag s f random
-told-done-open Nothing m tag s f random = refl
 
 module _ (m : Map) (tag : Tag) (s : List ℕ) (d : Decision) (done : d .reason ≡ Open) where
   not-done-none : (n : ℕ) (b : Barred) → barredPlace b ≡ 0 → barredPlace (notDone m tag s n b .reason) ≡ 0
@@ -248,7 +230,7 @@ no-other-reason tag s f random room h =
     let t = told (getD f 0 0) in
     let number = told-number tag s f random room t refl in
     rw (told-decided tag s f random room t refl)
-    (concluded-none mf0aes20 tag s (toldDone t mf0aes20 tag s f random) (told-done-open t mf0aes20 tag s f random) (early tag s f random room)
+    (concluded-none mf0aes20 tag s (toldDone t mf0aes20 tag s f random) (told-done t mf0aes20 tag s f random .1) (early tag s f random room)
     (toldCommandNumber t mf0aes20 tag s f)
     (toldCommandReason t mf0aes20 tag s f)
     (no-place tag s f random room t refl (by-number number h)))

@@ -10,7 +10,7 @@
 use mathlib.Core.Path.{_≡_, refl, _∙_}
 use mathlib.Core.List.{List}
 use mathlib.Core.Bool.{true, false}
-use Prim.Native.Nat.{ℕ, zero, suc}
+use Prim.Native.Nat.{ℕ}
 use lib.ListN.{length, getD}
 use Rattle.model.specs.declared.Map.{Map}
 use Rattle.model.specs.declared.Tag.{Tag}
@@ -19,7 +19,6 @@ use Rattle.model.specs.declared.Command.{Command}
 use Rattle.model.specs.declared.Command.the-variants.{Read, FastRead, Write, ReadCnt, IncrCnt, Authenticate, Proof, Halt}
 use Rattle.model.specs.declared.Told.{Told}
 use Rattle.model.specs.declared.Told.the-variants.{Known, Nothing}
-use Rattle.model.specs.declared.Decision.{Decision}
 use Rattle.model.specs.declared.Barred.{Barred}
 use Rattle.model.specs.declared.Barred.the-variants.{Open}
 use Rattle.model.specs.declared.Effect.the-variants.{Keep}
@@ -30,12 +29,7 @@ use Rattle.model.specs.Reading.{readNumber, fastReadNumber}
 use Rattle.model.specs.Counters.{readCntNumber, incrCntNumber}
 use Rattle.model.specs.Authentication.{raised, challengeNumber}
 use Rattle.model.specs.Frame.{misfit, commandReason, commandNumber, commandDone, notDone, concluded, commanded, toldCommanded, earlierNumber, decide}
-use Rattle.model.proofs.Numbers.{first-is, numberIf-is, two-checks, of-write}
-
--- a number that is not 0 ends it there
-concluded-stops : (m : Map) (tag : Tag) (s : List ℕ) (d : Decision) (n : ℕ) (b : Barred) → (n ≡ 0 → ⊥) → concluded n b m tag s d ≡ notDone m tag s n b
-concluded-stops m tag s d zero b h = absurd (h refl)
-concluded-stops m tag s d (suc n) b h = refl
+use Rattle.model.proofs.Numbers.{first-is, numberIf-is, two-checks, of-write, concluded-not}
 
 -- a number that leaves nothing behind but the end of the session
 abbrev Plain : Map → Tag → List ℕ → Barred → ℕ → Type 0
@@ -88,7 +82,7 @@ module _ (m : Map) (tag : Tag) (s f random : List ℕ) (room : ℕ) where
             → decide m tag s f random room ≡ refused (toldNumber (told (getD f 0 0)) (tag .state) (length f)) Open Keep
         decide-told-refused h =
             decide-rest (told (getD f 0 0)) refl
-            ∙ concluded-stops m tag s _ (toldNumber (told (getD f 0 0)) (tag .state) (length f)) Open h
+            ∙ concluded-not (toldNumber (told (getD f 0 0)) (tag .state) (length f)) Open m tag s _ h
             ∙ told-plain m tag s f Open (told (getD f 0 0)) (tag .state) (length f)
 
         pub decide-known : (c : Command) (k : ℕ) → told (getD f 0 0) ≡ Known c k → toldNumber (Known c k) (tag .state) (length f) ≡ 0
@@ -106,7 +100,7 @@ commanded-not : (c : Command) (m : Map) (tag : Tag) (s f random : List ℕ) → 
     → commanded c m tag s f random ≡ notDone m tag s (commandNumber c m tag s f) (commandReason c m tag s f)
 unfolding commanded
 commanded-not c m tag s f random h =
-    concluded-stops m tag s (commandDone c m tag s f random) (commandNumber c m tag s f) (commandReason c m tag s f) h
+    concluded-not (commandNumber c m tag s f) (commandReason c m tag s f) m tag s (commandDone c m tag s f random) h
 
 pub commanded-refused : (c : Command) → (c ≡ Proof → ⊥) → (m : Map) (tag : Tag) (s f random : List ℕ)
     → (commandNumber c m tag s f ≡ 0 → ⊥)
