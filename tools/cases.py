@@ -1,7 +1,7 @@
 #!/usr/bin/env python3
 """The values of the bench cases, worked out from document 01, 009 and FIPS 197.
 
-    tools/cases.py            writes the base image and the rows into crates/model/specs/ and crates/cases/specs/
+    tools/cases.py            writes the base image and the rows into specs/ of the crates model, cases and login_cases
     tools/cases.py --check    says whether they are there as they would be written; exit 1 if not
 
 The script has an AES-128 and a CRC_A of its own and uses nothing of the definition of the tag, which is held against these values. In each of the
@@ -949,7 +949,6 @@ THEMES = [
     ("PairLocks", "pairLockCases", PAIR_LOCKS),
     ("Settings", "settingCases", SETTINGS),
     ("Counters", "counterCases", COUNTERS),
-    ("Logins", "loginCases", LOGINS),
 ]
 
 
@@ -960,6 +959,10 @@ def statement(name, test, joined):
 
 def document_rows():
     return rows("cases", DOCUMENT) + statement("CasesRight", "allRight", "cases")
+
+
+def login_rows():
+    return rows("loginCases", LOGINS) + statement("LoginsRight", "allRight", "loginCases")
 
 
 def themes():
@@ -1086,6 +1089,7 @@ CRATES = os.path.join(os.path.dirname(os.path.abspath(__file__)), "..", "crates"
 MARK = "-- ---- from here on written by tools/cases.py\n\n"
 FILES = [("model/specs/CaseImages.antt", base()), ("model/specs/Cases.antt", document_rows())]
 FILES += [("cases/specs/%s.antt" % name, rows(joined, table) + "\n") for name, joined, table in THEMES]
+FILES += [("login_cases/specs/Logins.antt", login_rows())]
 FILES += [("cases/specs/Themes.antt", themes()), ("cases/specs/States.antt", state_rows()), ("cases/specs/Direct.antt", direct_rows())]
 
 

@@ -1,12 +1,9 @@
--- CBC deciphering of two blocks (NIST SP 800-38A section 6.2), as `aes::cbc_decipher_two` hands them back. Assumes nothing.
+-- Two blocks deciphered with one key, as `aes::decipher_two` hands them back. Assumes nothing.
 use mathlib.Core.List.{List}
 use Prim.Native.Nat.{ℕ}
-use Rattle.fips197.specs.Cbc.{blockOf, cbcDecipher}
+use Rattle.fips197.specs.Cipher.{decipher}
 use Rattle.aes.specs.declared.TwoBlocks.{TwoBlocks}
 
--- the plaintexts of the first two blocks of the ciphertext s: the second is chained on the first
-unfoldable pub cbcDecipherTwo : List ℕ → List ℕ → List ℕ → TwoBlocks
-cbcDecipherTwo key chain s = record {
-  first = cbcDecipher key chain (blockOf s 0);
-  second = cbcDecipher key (blockOf s 0) (blockOf s 16);
-}
+-- each block by itself, FIPS 197 section 5.3
+unfoldable pub decipherTwo : List ℕ → List ℕ → List ℕ → TwoBlocks
+decipherTwo key a b = record { first = decipher key a; second = decipher key b }

@@ -1,21 +1,15 @@
-// AES-128 of FIPS 197 and the CBC mode of NIST SP 800-38A: keys and blocks by value, for any bytes. A public call copies each table that
-// it needs once, and lends it to the functions below it.
-mod inv_sbox;
-mod sbox;
-
-use columns::state;
-use columns::words;
+// AES-128 of FIPS 197: keys and blocks by value, for any bytes. A public call copies each table that it needs once, and lends it to the
+// functions below it.
 ghost use mathlib.Core.Path.{_≡_};
 ghost use Rattle.fips197.specs.KeyExpansion.{keyExpansion};
 ghost use Rattle.fips197.specs.Cipher.{encipher, decipher};
-ghost use Rattle.fips197.specs.Cbc.{cbcEncipher, cbcDecipher};
-ghost use Rattle.aes.specs.TwoBlocks.{cbcDecipherTwo};
+ghost use Rattle.aes.specs.TwoBlocks.{decipherTwo};
 
 // The 44 words of the key schedule, FIPS 197 section 5.2.
 pub fn key_schedule(key: [u8; 16]) -> [u8; 176]
     ensures { λ r. ⌜ r ≡ keyExpansion key ⌝ }
 {
-    let table = sbox::SBOX;
+    let table = sboxes::sbox();
     schedule::expand(&table, key)
 }
 
@@ -23,7 +17,7 @@ pub fn key_schedule(key: [u8; 16]) -> [u8; 176]
 pub fn encipher(key: [u8; 16], block: [u8; 16]) -> [u8; 16]
     ensures { λ r. ⌜ r ≡ encipher key block ⌝ }
 {
-    let table = sbox::SBOX;
+    let table = sboxes::sbox();
     let w = schedule::expand(&table, key);
     rounds::cipher(&table, &w, block)
 }
@@ -33,22 +27,8 @@ pub fn decipher(key: [u8; 16], block: [u8; 16]) -> [u8; 16]
     ensures { λ r. ⌜ r ≡ decipher key block ⌝ }
 {
     let w = key_schedule(key);
-    let table = inv_sbox::INV_SBOX;
+    let table = sboxes::inv_sbox();
     rounds::inv_cipher(&table, &w, block)
-}
-
-// One block enciphered in CBC mode: chain is the ciphertext before it, or the initialization vector.
-pub fn cbc_encipher(key: [u8; 16], chain: [u8; 16], block: [u8; 16]) -> [u8; 16]
-    ensures { λ r. ⌜ r ≡ cbcEncipher key chain block ⌝ }
-{
-    encipher(key, words::xor_block(block, chain))
-}
-
-// One block deciphered in CBC mode: chain is the ciphertext before it, or the initialization vector.
-pub fn cbc_decipher(key: [u8; 16], chain: [u8; 16], block: [u8; 16]) -> [u8; 16]
-    ensures { λ r. ⌜ r ≡ cbcDecipher key chain block ⌝ }
-{
-    words::xor_block(decipher(key, block), chain)
 }
 
 pub struct TwoBlocks {
@@ -56,17 +36,16 @@ pub struct TwoBlocks {
     pub second: [u8; 16],
 }
 
-// The first two blocks of a lent ciphertext deciphered in CBC mode; a byte past its end counts 0. The key is expanded once.
-pub fn cbc_decipher_two(key: [u8; 16], chain: [u8; 16], ciphertext: &[u8]) -> TwoBlocks
-    ensures { λ r. ⌜ r ≡ cbcDecipherTwo key chain (now (ciphertext .entry)) ⌝ }
+// Two blocks deciphered, each by itself. The key is expanded once.
+pub fn decipher_two(key: [u8; 16], first: [u8; 16], second: [u8; 16]) -> TwoBlocks
+    ensures { λ r. ⌜ r ≡ decipherTwo key first second ⌝ }
 {
     let w = key_schedule(key);
-    let table = inv_sbox::INV_SBOX;
-    let c1 = state::block_of(ciphertext, 0);
-    let c2 = state::block_of(ciphertext, 16);
-    let p1 = rounds::inv_cipher(&table, &w, c1);
-    let p2 = rounds::inv_cipher(&table, &w, c2);
-    let first = words::xor_block(p1, chain);
-    let second = words::xor_block(p2, c1);
-    TwoBlocks { first, second }
+    let table = sboxes::inv_sbox();
+    let p1 = rounds::inv_cipher(&table, &w, first);
+    let p2 = rounds::inv_cipher(&table, &w, second);
+    TwoBlocks {
+        first: p1,
+        second: p2,
+    }
 }

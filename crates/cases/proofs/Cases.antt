@@ -15,7 +15,6 @@ use Rattle.cases.specs.Locks.{lockCases}
 use Rattle.cases.specs.PairLocks.{pairLockCases}
 use Rattle.cases.specs.Settings.{settingCases}
 use Rattle.cases.specs.Counters.{counterCases}
-use Rattle.cases.specs.Logins.{loginCases}
 use Rattle.cases.specs.Themes.{themeCases, ThemesRight}
 use Rattle.cases.specs.DirectForm.{sameTag, directRight, allDirectRight}
 use Rattle.cases.specs.States.{stateRows}
@@ -54,20 +53,14 @@ counters-right : T (allRight counterCases)
 unfolding computing counterCases
 counters-right = tt
 
-logins-right : T (allRight loginCases)
-unfolding computing loginCases
-logins-right = tt
-
 pub themes-right : ThemesRight
 unfolding themeCases
 themes-right =
-    append-right _ loginCases
-    (append-right _ counterCases
+    append-right _ counterCases
     (append-right _ settingCases
     (append-right _ pairLockCases (append-right _ lockCases (append-right _ readingCases frames-right reading-right) locks-right) pair-locks-right)
     settings-right)
-    counters-right)
-    logins-right
+    counters-right
 
 pub direct-right : DirectRight
 unfolding computing sameTag directRight allDirectRight stateRows direct

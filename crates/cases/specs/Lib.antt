@@ -1,11 +1,11 @@
--- Bench cases beside document 01's own, which are in model/specs/Cases.antt; which calls demand 3 strikes out, and samples for the claims' hypotheses.
+-- Bench cases beside document 01's own (model/specs/Cases.antt) and those with logins (`login_cases`); which calls demand 3 strikes out, and
+-- samples for the claims' hypotheses.
 pub mod Frames
 pub mod Reading
 pub mod Locks
 pub mod PairLocks
 pub mod Settings
 pub mod Counters
-pub mod Logins
 pub mod Themes
 pub mod DirectForm
 pub mod States

@@ -1,4 +1,4 @@
--- The bench cases by theme, beside document 01's own: one list with one statement.
+-- The bench cases by theme, beside document 01's own and those with logins: one list with one statement.
 --
 --     themeCases         the cases of the other files
 --     ThemesRight        each of them is right
@@ -14,13 +14,12 @@ use Rattle.cases.specs.Locks.{lockCases}
 use Rattle.cases.specs.PairLocks.{pairLockCases}
 use Rattle.cases.specs.Settings.{settingCases}
 use Rattle.cases.specs.Counters.{counterCases}
-use Rattle.cases.specs.Logins.{loginCases}
 
 -- ---- from here on written by tools/cases.py
 
 unfoldable pub themeCases : List Case
 themeCases =
-    frameCases ++ readingCases ++ lockCases ++ pairLockCases ++ settingCases ++ counterCases ++ loginCases
+    frameCases ++ readingCases ++ lockCases ++ pairLockCases ++ settingCases ++ counterCases
 
 abbrev pub ThemesRight : Type 0
 ThemesRight = T (allRight themeCases)

@@ -1,12 +1,12 @@
-// The state as four columns, and the steps of a round on it: FIPS 197 sections 3.4, 5.1.1 to 5.1.4 and 5.3.1 to 5.3.3.
+// The state as four columns, and the steps of a round on it: FIPS 197 sections 3.4, 5.1.1, 5.1.2, 5.1.4, 5.3.1 and 5.3.2.
 use crate::words;
 use crate::words::Word;
 ghost use mathlib.Core.Path.{_≡_};
 ghost use Prim.Native.Nat.{_<_};
-ghost use Rattle.fips197.specs.State.{shiftRows, invShiftRows, mixColumns, invMixColumns, addRoundKey};
+ghost use Rattle.fips197.specs.State.{shiftRows, invShiftRows, addRoundKey};
 ghost use Rattle.fips197.specs.KeyExpansion.{wordOf, xorWord};
 ghost use Rattle.columns.specs.Words.{bytesOf, columnsOf, subBytesBy};
-ghost use Rattle.fips197.specs.Cbc.{blockOf};
+ghost use Rattle.fips197.specs.Cbc.{xorBlock, blockOf};
 
 pub struct Columns {
     pub c0: Word,
@@ -20,10 +20,10 @@ pub fn columns_of(b: [u8; 16]) -> Columns
     ensures { λ r. ⌜ columnsOf r ≡ b ⌝ }
 {
     Columns {
-        c0: words::word_of(b[0], b[1], b[2], b[3]),
-        c1: words::word_of(b[4], b[5], b[6], b[7]),
-        c2: words::word_of(b[8], b[9], b[10], b[11]),
-        c3: words::word_of(b[12], b[13], b[14], b[15]),
+        c0: words::column_of(&b, 0),
+        c1: words::column_of(&b, 1),
+        c2: words::column_of(&b, 2),
+        c3: words::column_of(&b, 3),
     }
 }
 
@@ -91,28 +91,6 @@ pub fn inv_shift_rows(s: Columns) -> Columns
     }
 }
 
-pub fn mix_columns(s: Columns) -> Columns
-    ensures { λ r. ⌜ columnsOf r ≡ mixColumns (columnsOf s) ⌝ }
-{
-    Columns {
-        c0: words::mix_word(s.c0),
-        c1: words::mix_word(s.c1),
-        c2: words::mix_word(s.c2),
-        c3: words::mix_word(s.c3),
-    }
-}
-
-pub fn inv_mix_columns(s: Columns) -> Columns
-    ensures { λ r. ⌜ columnsOf r ≡ invMixColumns (columnsOf s) ⌝ }
-{
-    Columns {
-        c0: words::inv_mix_word(s.c0),
-        c1: words::inv_mix_word(s.c1),
-        c2: words::inv_mix_word(s.c2),
-        c3: words::inv_mix_word(s.c3),
-    }
-}
-
 // A column and word i of the key schedule added.
 fn add_word(w: &[u8; 176], i: usize, u: Word) -> Word
     requires { ⌜ i < 44 ⌝ }
@@ -145,4 +123,23 @@ pub fn block_of(s: &[u8], n: usize) -> [u8; 16]
         c2: words::word_from(s, n + 8),
         c3: words::word_from(s, n + 12),
     })
+}
+
+fn xor_columns(s: Columns, v: Columns) -> Columns
+    ensures { λ r. ⌜ columnsOf r ≡ xorBlock (columnsOf s) (columnsOf v) ⌝ }
+{
+    Columns {
+        c0: words::xor_word(s.c0, v.c0),
+        c1: words::xor_word(s.c1, v.c1),
+        c2: words::xor_word(s.c2, v.c2),
+        c3: words::xor_word(s.c3, v.c3),
+    }
+}
+
+pub fn xor_block(a: [u8; 16], b: [u8; 16]) -> [u8; 16]
+    ensures { λ r. ⌜ r ≡ xorBlock a b ⌝ }
+{
+    let s = columns_of(a);
+    let v = columns_of(b);
+    block(xor_columns(s, v))
 }

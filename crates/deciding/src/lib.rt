@@ -23,12 +23,12 @@ fn command(c: Command, map: Map, tag: Tag, s: &[u8], f: &[u8], random: &[u8]) ->
     ensures { λ r. ⌜ r ≡ commanded c map tag (now (s .entry)) (now (f .entry)) (now (random .entry)) ⌝ }
 {
     match c {
-        Command::Read => commands::read(map, tag, s, f, random),
-        Command::FastRead => commands::fast_read(map, tag, s, f, random),
-        Command::Write => commands::write(map, tag, s, f, random),
-        Command::ReadCnt => commands::read_cnt(map, tag, s, f, random),
+        Command::Read => reads::read(map, tag, s, f, random),
+        Command::FastRead => reads::fast_read(map, tag, s, f, random),
+        Command::Write => writes::write(map, tag, s, f, random),
+        Command::ReadCnt => reads::read_cnt(map, tag, s, f, random),
         Command::IncrCnt => commands::incr_cnt(map, tag, s, f, random),
-        Command::Authenticate => login::authenticate(map, tag, s, f, random),
+        Command::Authenticate => challenges::authenticate(map, tag, s, f, random),
         Command::Proof => login::prove(map, tag, s, f, random),
         Command::Halt => commands::halt(map, tag, s, f, random),
     }
@@ -45,7 +45,7 @@ fn told(map: Map, tag: Tag, s: &[u8], f: &[u8], random: &[u8], room: usize) -> D
     let st = tag.state;
     let n = telling::told_number(t, st, f.len());
     if n != 0 {
-        return decisions::refused(n, Barred::Open, Effect::Keep);
+        return refusals::refused(n, Barred::Open, Effect::Keep);
     }
     match t {
         Told::Known(c, _) => command(c, map, tag, s, f, random),
@@ -58,14 +58,14 @@ pub fn decide(map: Map, tag: Tag, s: &[u8], f: &[u8], random: &[u8], room: usize
     ensures { λ r. ⌜ r ≡ decide map tag (now (s .entry)) (now (f .entry)) (now (random .entry)) room ⌝ }
 {
     if judge::frame::misfit(map, tag, s, random, room) {
-        return decisions::kept(10, tag);
+        return refusals::kept(10, tag);
     }
     let st = tag.state;
     if record::is_waiting(st) {
-        return decisions::kept(1, tag);
+        return refusals::kept(1, tag);
     }
     if telling::damaged(f) {
-        return decisions::refused(2, Barred::Open, Effect::Keep);
+        return refusals::refused(2, Barred::Open, Effect::Keep);
     }
     told(map, tag, s, f, random, room)
 }

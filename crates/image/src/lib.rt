@@ -1,11 +1,12 @@
 // Loading and saving an image file (document 01, "Image file"). Nothing is stored before every check has passed.
-mod writing;
-
+use image_judge::image_right;
+use image_read::tag_of;
+use image_read::zero_tag;
+use image_write::lay_image;
 use model::Map;
 use model::Tag;
 use numbers::first;
 use numbers::number_if;
-use sections::reading;
 use sections::sizes;
 ghost use mathlib.Core.Path.{_≡_};
 ghost use mathlib.Core.Bool.{true};
@@ -45,7 +46,7 @@ fn load_number(image: &[u8], store: &[u8]) -> u8
     let size = memory::sizes::store_size(map);
     first(
         number_if(store.len() != size, 10),
-        number_if(!reading::image_right(map, image), 12),
+        number_if(!image_right(map, image), 12),
     )
 }
 
@@ -68,11 +69,11 @@ pub fn load(image: &[u8], store: &mut [u8]) -> Loading
     let map = mf0aes20();
     let number = load_number(image, &store[..]);
     if number != 0 {
-        let tag = reading::zero_tag();
+        let tag = zero_tag();
         return Loading { number, tag };
     }
     take_pages(map, image, store);
-    let tag = reading::tag_of(map, image);
+    let tag = tag_of(map, image);
     Loading { number, tag }
 }
 
@@ -96,7 +97,7 @@ pub fn save(tag: Tag, store: &[u8], image: &mut [u8]) -> u8
 {
     let number = save_number(tag, store, image.len());
     if number == 0 {
-        writing::lay_image(mf0aes20(), tag, store, image);
+        lay_image(mf0aes20(), tag, store, image);
     }
     number
 }

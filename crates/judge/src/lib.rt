@@ -1,4 +1,3 @@
 // What a frame's checks decide: code that only reads, each function one equation with a definition of the tag.
-pub mod authentication;
 pub mod frame;
 pub mod reading;

@@ -6,7 +6,7 @@ ghost use mathlib.Core.Path.{_≡_};
 ghost use Prim.Native.Nat.{_<_};
 ghost use lib.ListN.{length};
 ghost use Rattle.fips197.specs.Cbc.{cbcEncipher};
-ghost use Rattle.aes.specs.TwoBlocks.{cbcDecipherTwo};
+ghost use Rattle.cbc.specs.TwoBlocks.{cbcDecipherTwo};
 ghost use Rattle.model.specs.Record.{zeros};
 ghost use Rattle.model.specs.Authentication.{pageKey, keyOf, rotated, sameBytes};
 
@@ -92,12 +92,12 @@ pub fn same_bytes(a: [u8; 16], b: [u8; 16]) -> bool
 pub fn enciphered(key: [u8; 16], block: [u8; 16]) -> [u8; 16]
     ensures { λ r. ⌜ r ≡ cbcEncipher key zeros block ⌝ }
 {
-    aes::cbc_encipher(key, [0u8; 16], block)
+    cbc::cbc_encipher(key, [0u8; 16], block)
 }
 
 // The two blocks of a message, deciphered from a zero IV.
 pub fn deciphered(key: [u8; 16], message: &[u8]) -> TwoBlocks
     ensures { λ r. ⌜ r ≡ cbcDecipherTwo key zeros (now (message .entry)) ⌝ }
 {
-    aes::cbc_decipher_two(key, [0u8; 16], message)
+    cbc::cbc_decipher_two(key, [0u8; 16], message)
 }

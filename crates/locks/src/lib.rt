@@ -1,12 +1,15 @@
 // Document 01, "Writing": the rules that stop a WRITE, 009 10.4, 8.5.2 to 8.5.4 and Tables 9, 10, 14 and 15.
 ghost use mathlib.Core.Path.{_≡_};
 ghost use mathlib.Core.Bool.{cond};
-ghost use Rattle.model.specs.Writing.{pageBars, auth0Bars, randomIdBars, ownLockBars, pairLockBars, ofKey, keyLockBars, configLockBars};
+ghost use Rattle.model.specs.declared.Barred.the-variants.{Open, OwnLock, PairLock, KeyLock, ConfigLock};
+ghost use Rattle.model.specs.Writing.{pageBars, auth0Bars, randomIdBars, ownLockBars, pairLockBars, keyLockBars, configLockBars};
 ghost use Rattle.model.specs.Writing.{barred, writeNumber};
+use lock_bits::key_lock_bars;
+use lock_bits::own_lock_bars;
+use lock_bits::pair_lock_bars;
 use memory::record;
 use memory::settings;
 use memory::settings::bit_set;
-use memory::settings::bit_set16;
 use memory::sizes;
 use model::Barred;
 use model::Map;
@@ -15,8 +18,6 @@ use model::State;
 use numbers::barred_number;
 use numbers::first;
 use numbers::number_if;
-use octets::byte_of;
-use octets::low_first;
 
 // Pages 02h to 3Bh can be written.
 pub fn page_bars(map: Map, p: u8) -> bool
@@ -39,38 +40,6 @@ pub fn random_id_bars(map: Map, st: State, s: &[u8], p: u8, q: Quad) -> bool
     (p == map.cfg0) & record::is_active(st) & !(bit_set(0, q.a) == settings::random_id_on(map, s))
 }
 
-// Lock bytes 0 and 1 as one number: bit p locks page p, from the OTP page to 0Fh (8.5.3).
-pub fn own_lock_bars(map: Map, s: &[u8], p: u8) -> bool
-    ensures { λ r. ⌜ r ≡ ownLockBars map (now (s .entry)) p ⌝ }
-{
-    let bits = low_first(byte_of(s, map.locks, 2), byte_of(s, map.locks, 3));
-    (map.otp <= p) & bit_set16(p, bits)
-}
-
-// Lock bytes 2 and 3 as one number: bit i locks the two pages 10h + 2i and 11h + 2i (8.5.4).
-pub fn pair_lock_bars(map: Map, s: &[u8], p: u8) -> bool
-    ensures { λ r. ⌜ r ≡ pairLockBars map (now (s .entry)) p ⌝ }
-{
-    let bits = low_first(byte_of(s, map.pairlocks, 0), byte_of(s, map.pairlocks, 1));
-    (map.pairs <= p) & (p < map.pairlocks) & bit_set16(octets::minus(p, map.pairs) / 2, bits)
-}
-
-// p is one of the four pages from q on.
-fn of_key(q: u8, p: u8) -> bool
-    ensures { λ r. ⌜ r ≡ ofKey q p ⌝ }
-{
-    (q <= p) & ((p as u16) < (q as u16) + 4)
-}
-
-// The pages of a locked key, and LOCK_KEYS itself where BLOCK_LOCK_KEY is set.
-pub fn key_lock_bars(map: Map, s: &[u8], p: u8) -> bool
-    ensures { λ r. ⌜ r ≡ keyLockBars map (now (s .entry)) p ⌝ }
-{
-    (of_key(map.key0, p) & settings::key_lock_bit(6, map, s))
-        | (of_key(map.key1, p) & settings::key_lock_bit(7, map, s))
-        | ((p == map.keylocks) & settings::key_lock_bit(5, map, s))
-}
-
 // CFG_0 and CFG_1 under LOCK_USR_CFG.
 pub fn config_lock_bars(map: Map, s: &[u8], p: u8) -> bool
     ensures { λ r. ⌜ r ≡ configLockBars map (now (s .entry)) p ⌝ }
@@ -85,10 +54,9 @@ fn rule_if(t: bool, rule: Barred, rest: Barred) -> Barred
     if t { rule } else { rest }
 }
 
-// The rule that stops a write of q to page p: the first that applies, so the last is judged first. Its number and its place follow from it (`numbers`); a
-// page that can't be written is 5 before any rule applies.
-pub fn barred(map: Map, st: State, s: &[u8], p: u8, q: Quad) -> Barred
-    ensures { λ r. ⌜ r ≡ barred map st (now (s .entry)) p q ⌝ }
+// The lock that stops a write to page p: the first that is set, so the last is judged first.
+fn locked(map: Map, s: &[u8], p: u8) -> Barred
+    ensures { λ r. ⌜ r ≡ cond (ownLockBars map (now (s .entry)) p) OwnLock (cond (pairLockBars map (now (s .entry)) p) PairLock (cond (keyLockBars map (now (s .entry)) p) KeyLock (cond (configLockBars map (now (s .entry)) p) ConfigLock Open))) ⌝ }
 {
     let config = rule_if(
         config_lock_bars(map, s, p),
@@ -97,8 +65,16 @@ pub fn barred(map: Map, st: State, s: &[u8], p: u8, q: Quad) -> Barred
     );
     let key = rule_if(key_lock_bars(map, s, p), Barred::KeyLock, config);
     let pair = rule_if(pair_lock_bars(map, s, p), Barred::PairLock, key);
-    let own = rule_if(own_lock_bars(map, s, p), Barred::OwnLock, pair);
-    let random_id = rule_if(random_id_bars(map, st, s, p, q), Barred::RandomId, own);
+    rule_if(own_lock_bars(map, s, p), Barred::OwnLock, pair)
+}
+
+// The rule that stops a write of q to page p, the first that applies, likewise. Its number and its place follow from it (`numbers`); a page that can't be
+// written is 5 before any rule applies.
+pub fn barred(map: Map, st: State, s: &[u8], p: u8, q: Quad) -> Barred
+    ensures { λ r. ⌜ r ≡ barred map st (now (s .entry)) p q ⌝ }
+{
+    let lock = locked(map, s, p);
+    let random_id = rule_if(random_id_bars(map, st, s, p, q), Barred::RandomId, lock);
     let auth0 = rule_if(auth0_bars(map, st, s, p), Barred::Auth0, random_id);
     rule_if(page_bars(map, p), Barred::Open, auth0)
 }

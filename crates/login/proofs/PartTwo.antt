@@ -14,7 +14,7 @@ use lib.ListN.{length, take, drop, length-drop}
 use lib.Seq.{take-all}
 use Rattle.fips197.specs.Cbc.{cbcEncipher}
 use Rattle.aes.specs.declared.TwoBlocks.{TwoBlocks}
-use Rattle.aes.specs.TwoBlocks.{cbcDecipherTwo}
+use Rattle.cbc.specs.TwoBlocks.{cbcDecipherTwo}
 use Rattle.model.specs.declared.Barred.the-variants.{Open}
 use Rattle.model.specs.declared.Map.{Map}
 use Rattle.model.specs.declared.Tag.{Tag}

@@ -1,5 +1,4 @@
-// AUTHENTICATE and its second part, 009 8.6.1, 8.6.5 and 10.10.
-use judge::authentication;
+// Part 2 of AUTHENTICATE, 009 8.6.1, 8.6.5 and 10.10: the reader's proof, and what a login does.
 use memory::record;
 use model::Barred;
 use model::Decision;
@@ -12,44 +11,13 @@ ghost use mathlib.Core.Path.{_≡_};
 ghost use mathlib.Core.Bool.{false};
 ghost use Prim.Native.Nat.{_≤_, _<_};
 ghost use lib.ListN.{length};
-ghost use Rattle.model.specs.declared.Command.the-variants.{Authenticate, Proof};
-ghost use Rattle.model.specs.Authentication.{keyOf, limitReached, lowered, rotated, challenged, loggedIn};
+ghost use Rattle.model.specs.declared.Command.the-variants.{Proof};
+ghost use Rattle.model.specs.Authentication.{keyOf, limitReached, lowered, rotated, loggedIn};
 ghost use Rattle.model.specs.Record.{zeros, keyNumber};
 ghost use Rattle.model.specs.declared.Barred.the-variants.{Open};
 ghost use Rattle.model.specs.declared.Say.the-variants.{Block};
 ghost use Rattle.fips197.specs.Cbc.{cbcEncipher};
 ghost use Rattle.model.specs.Frame.{commanded};
-
-// Part 1 done: the random block, enciphered, goes out and is kept.
-fn challenge(map: Map, tag: Tag, s: &[u8], k: u8, random: &[u8]) -> Decision
-    requires { ⌜ length (now random) ≡ 16 ⌝ }
-    ensures { λ r. ⌜ r ≡ challenged map tag (now (s .entry)) k (now (random .entry)) ⌝ }
-{
-    let kept = keys::block_of(random);
-    let sent = keys::enciphered(keys::key_of(map, tag, s, k), kept);
-    Decision {
-        number: 0,
-        reason: Barred::Open,
-        effect: Effect::Keep,
-        say: Say::Block(0xaf),
-        block: sent,
-        state: State::Challenged(k),
-        challenge: kept,
-    }
-}
-
-// AUTHENTICATE, part 1.
-pub fn authenticate(map: Map, tag: Tag, s: &[u8], f: &[u8], random: &[u8]) -> Decision
-    requires { ⌜ length (now random) ≡ 16 ⌝ }
-    ensures { λ r. ⌜ r ≡ commanded Authenticate map tag (now (s .entry)) (now (f .entry)) (now (random .entry)) ⌝ }
-{
-    let k = octets::at(f, 1);
-    let n = authentication::challenge_number(map, tag, s, k);
-    if n == 0 {
-        return challenge(map, tag, s, k, random);
-    }
-    decisions::refused(n, Barred::Open, Effect::Keep)
-}
 
 // The state that key number k leads to.
 fn logged_in(k: u8) -> State
@@ -81,7 +49,7 @@ fn logged(map: Map, tag: Tag, s: &[u8], key: [u8; 16], theirs: [u8; 16]) -> Deci
     Decision {
         number: 0,
         reason: Barred::Open,
-        effect: authentication::lowered(map, tag, s),
+        effect: limit::lowered(map, tag, s),
         say: Say::Block(0x00),
         block: sent,
         state: logged_in(record::key_number(st)),
@@ -104,7 +72,7 @@ fn judge_answer(map: Map, tag: Tag, s: &[u8], f: &[u8], random: &[u8]) -> Decisi
     if keys::same_bytes(ours, keys::rotated(challenge)) {
         return logged(map, tag, s, key, theirs);
     }
-    decisions::refused(8, Barred::Open, authentication::raised(map, tag, s))
+    refusals::refused(8, Barred::Open, limit::raised(map, tag, s))
 }
 
 // AUTHENTICATE, part 2.
@@ -113,8 +81,8 @@ pub fn prove(map: Map, tag: Tag, s: &[u8], f: &[u8], random: &[u8]) -> Decision
     requires { ⌜ tag .failed < 65535 ⌝ }
     ensures { λ r. ⌜ r ≡ commanded Proof map tag (now (s .entry)) (now (f .entry)) (now (random .entry)) ⌝ }
 {
-    if authentication::limit_reached(map, tag, s) {
-        return decisions::refused(11, Barred::Open, Effect::Keep);
+    if limit::limit_reached(map, tag, s) {
+        return refusals::refused(11, Barred::Open, Effect::Keep);
     }
     judge_answer(map, tag, s, f, random)
 }

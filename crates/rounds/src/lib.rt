@@ -14,7 +14,7 @@ fn round(sbox: &[u8; 256], w: &[u8; 176], n: usize, s: Columns) -> Columns
 {
     let substituted = state::sub_bytes(sbox, s);
     let shifted = state::shift_rows(substituted);
-    let mixed = state::mix_columns(shifted);
+    let mixed = mixing::mix_columns(shifted);
     state::add_round_key(w, n, mixed)
 }
 
@@ -49,7 +49,7 @@ fn inv_round(inv_sbox: &[u8; 256], w: &[u8; 176], n: usize, s: Columns) -> Colum
     let shifted = state::inv_shift_rows(s);
     let substituted = state::sub_bytes(inv_sbox, shifted);
     let added = state::add_round_key(w, n, substituted);
-    state::inv_mix_columns(added)
+    mixing::inv_mix_columns(added)
 }
 
 fn inv_last_round(inv_sbox: &[u8; 256], w: &[u8; 176], s: Columns) -> Columns

@@ -1,3 +1,2 @@
-// The sections of an image file: where each stands, and what it holds, read (document 01, "Image file").
-pub mod reading;
+// The sections of an image file: where each stands (document 01, "Image file").
 pub mod sizes;

@@ -1,5 +1,5 @@
 // The login of MF0AES(H)20, Table 17: the key is zero, and so is each message's initialization vector.
-use crate::cbc;
+use crate::chained;
 use reports::digits;
 
 const ZERO: [u8; 16] = [0; 16];
@@ -9,7 +9,7 @@ const READER: [u8; 64] = *b"cdf22c5f7a92f0af0155612b9b236ac7\
 
 // A message of the tag: one block.
 fn tag_message(name: &[u8], plain: &[u8], cipher: &[u8]) {
-    cbc::encipher(
+    chained::encipher(
         name,
         ZERO,
         ZERO,
@@ -24,10 +24,10 @@ fn reader_message() {
     let p1 = digits::block(b"f29b0123f5c00df612487bbf42468c7e", 0);
     let p2 = digits::block(b"e4174ca173ebbc59165cebe2f208211a", 0);
     let expected = digits::block(&ciphertext, 0);
-    let c1 = cbc::encipher(b"MF0AES(H)20 Table 17 RndA", ZERO, ZERO, p1, expected);
+    let c1 = chained::encipher(b"MF0AES(H)20 Table 17 RndA", ZERO, ZERO, p1, expected);
     let expected = digits::block(&ciphertext, 1);
-    cbc::encipher(b"MF0AES(H)20 Table 17 RndB'", ZERO, c1, p2, expected);
-    cbc::decipher_two(
+    chained::encipher(b"MF0AES(H)20 Table 17 RndB'", ZERO, c1, p2, expected);
+    chained::decipher_two(
         b"MF0AES(H)20 Table 17 RndA deciphered",
         b"MF0AES(H)20 Table 17 RndB' deciphered",
         ZERO,

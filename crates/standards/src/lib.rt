@@ -1,5 +1,5 @@
-// The standards' vectors through `aes` and `crc`: a line for each, with its name and whether the value came out.
-mod cbc;
+// The standards' vectors through `aes`, `cbc` and `crc`: a line for each, with its name and whether the value came out.
+mod chained;
 pub mod cipher;
 pub mod exchange;
 pub mod modes;

@@ -1,5 +1,5 @@
 // ECB and CBC with AES-128: SP 800-38A, F.1.1, F.1.2, F.2.1 and F.2.2.
-use crate::cbc;
+use crate::chained;
 use crate::cipher;
 use reports::digits;
 use reports::report;
@@ -49,13 +49,13 @@ pub fn ecb() {
 fn encipher(name: &[u8], chain: [u8; 16], n: usize) -> [u8; 16]
     requires { ⌜ n < 4 ⌝ }
 {
-    cbc::encipher(name, cipher::example_key(), chain, plain(n), cbc_block(n))
+    chained::encipher(name, cipher::example_key(), chain, plain(n), cbc_block(n))
 }
 
 fn decipher(name: &[u8], chain: [u8; 16], n: usize)
     requires { ⌜ n < 4 ⌝ }
 {
-    let got = aes::cbc_decipher(cipher::example_key(), chain, cbc_block(n));
+    let got = cbc::cbc_decipher(cipher::example_key(), chain, cbc_block(n));
     report::block(name, got, plain(n));
 }
 
@@ -74,7 +74,7 @@ fn cbc_decipher() {
 }
 
 fn cbc_decipher_two() {
-    cbc::decipher_two(
+    chained::decipher_two(
         b"SP 800-38A F.2.2 block 1 of two",
         b"SP 800-38A F.2.2 block 2 of two",
         cipher::example_key(),

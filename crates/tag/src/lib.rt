@@ -2,7 +2,6 @@
 use effect::storing;
 use events::Answer;
 use image::Loading;
-use model::State;
 use model::Tag;
 use reply::speaking;
 ghost use mathlib.Core.Path.{_≡_};
@@ -17,14 +16,14 @@ ghost use Rattle.model.specs.Image.{load, save};
 pub fn power(tag: Tag) -> Answer
     ensures { λ r. ⌜ r ≡ record { number = 0; reply = Silence; reason = Open; tag = power tag } ⌝ }
 {
-    events::event(tag, State::Waiting)
+    events::power(tag)
 }
 
 // The reader selects the tag, whatever its state.
 pub fn select(tag: Tag) -> Answer
     ensures { λ r. ⌜ r ≡ record { number = 0; reply = Silence; reason = Open; tag = select tag } ⌝ }
 {
-    events::event(tag, State::Active)
+    events::select(tag)
 }
 
 // A frame, with sixteen random bytes and a buffer for the reply. A WRITE that is refused says which rule stopped it.

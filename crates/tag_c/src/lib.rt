@@ -2,11 +2,8 @@
 // no pointer is null and the buffers of one call lie apart. A record buffer of another length is answered 10, and 10 changes no buffer.
 use c_answer::answer_of;
 use c_record::RECORD_SIZE;
-use c_record::hand_back;
-use c_record::put_record;
 use c_record::record_of;
 use model::Reply;
-use numbers::barred_place;
 ghost use mathlib.Core.Path.{_≡_};
 ghost use Rattle.tag_c.specs.Calls.{power, select, frame, load, save};
 
@@ -19,10 +16,7 @@ pub extern "C" fn kz_power(record: &mut [u8]) -> u8
     if record.len() != RECORD_SIZE {
         return 10;
     }
-    let powered = tag::power(record_of(&record[..]));
-    let next = powered.tag;
-    put_record(record, next);
-    powered.number
+    c_events::power(record)
 }
 
 // The reader selects the tag, whatever its state and its record.
@@ -34,10 +28,7 @@ pub extern "C" fn kz_select(record: &mut [u8]) -> u8
     if record.len() != RECORD_SIZE {
         return 10;
     }
-    let selected = tag::select(record_of(&record[..]));
-    let next = selected.tag;
-    put_record(record, next);
-    selected.number
+    c_events::select(record)
 }
 
 // A frame, with sixteen random bytes and a buffer for the reply.
@@ -58,12 +49,7 @@ pub extern "C" fn kz_frame(
         return answer_of(10, 0, Reply::Silence);
     }
     let a = tag::frame(record_of(&record[..]), store, f, random, reply);
-    let number = a.number;
-    let said = a.reply;
-    let reason = a.reason;
-    let next = a.tag;
-    hand_back(record, number, next);
-    answer_of(number, barred_place(reason), said)
+    c_told::told(record, a)
 }
 
 // An image file is loaded into a store, and its record into the record buffer.
@@ -76,11 +62,7 @@ pub extern "C" fn kz_load(record: &mut [u8], store: &mut [u8], file: &[u8]) -> u
     if record.len() != RECORD_SIZE {
         return 10;
     }
-    let l = tag::load(file, store);
-    let number = l.number;
-    let next = l.tag;
-    hand_back(record, number, next);
-    number
+    c_image::load(record, store, file)
 }
 
 // The tag is saved as an image file, into the first bytes of a buffer.
@@ -92,5 +74,5 @@ pub extern "C" fn kz_save(record: &[u8], store: &[u8], file: &mut [u8]) -> u8
     if record.len() != RECORD_SIZE {
         return 10;
     }
-    tag::save(record_of(record), store, file)
+    c_image::save(record, store, file)
 }

@@ -1,22 +1,18 @@
--- `aes::encipher` meets its contract: the table that it lends is Figure 7, and its two calls are the key expansion and the cipher.
+-- `aes::encipher` meets its contract: its calls are the key expansion and the cipher, over one table.
 -- Assumes nothing.
-use mathlib.Core.Path.{refl}
-use Rattle.fips197.specs.SBox.{sBoxTable}
+use mathlib.Core.Path.{ap, _∙_}
+use mathlib.Core.List.{List}
+use Prim.Native.Nat.{ℕ}
+use borrow.Author.Needs.{needs}
 use Rattle.fips197.specs.Cipher as fips197
 use Rattle.aes.proofs.encipher.Statement.{statement}
 use Rattle.aes.proofs.encipher.Tie as tie
 
-expand-requires : tie.Need-expand-requires
-unfolding sBoxTable
-expand-requires c κs = refl
-
-cipher-requires : tie.Need-cipher-requires
-unfolding sBoxTable
-cipher-requires c κs = refl
-
 returns : tie.Need-returns
 unfolding fips197.encipher
-returns c = rw (c .cipher .ensures, c .before .before .before .expand .ensures)
+returns c =
+    let expanded = c .before .before .before in
+    c .cipher .ensures ∙ ap (λ (w : List ℕ). fips197.cipher w (expanded .before .before .before .args .block)) (expanded .expand .ensures)
 
 pub encipher-spec : {M : Type 1} → statement M
-encipher-spec = tie.close (tie.spec expand-requires cipher-requires returns)
+encipher-spec = tie.close (tie.spec (λ c κs. search needs) (λ c κs. search needs) (λ c κs. search needs) returns)

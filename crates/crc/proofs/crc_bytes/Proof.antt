@@ -1,7 +1,7 @@
 -- `crc::crc_bytes` meets its contract. The loop's invariant: the bytes that are left take the register to the frame's CRC_A.
 -- Assumes nothing.
-use mathlib.Core.Path.{_≡_, refl}
-use Prim.Native.Nat.{_≤_, _-_}
+use mathlib.Core.Path.{_≡_, refl, sym, ap, _∙_}
+use Prim.Native.Nat.{ℕ, _≤_, _+_, _-_}
 use borrow.Author.Needs.{needs}
 use native.Mathlib.Omega.{arith}
 use lib.ListN.{length, drop}
@@ -23,12 +23,16 @@ loop-holds c = (omega arith, refl)
 loop-again : tie.Need-loop-again Inv-loop μ-loop
 loop-again c =
     let l = c .before .before .before .loop in
-    (omega arith, cc (crcFrom-step (l .register) (c .before .before .before .before .before .args .frame .now) (l .i) (omega arith)))
+    let frame = c .before .before .before .before .before .args .frame .now in (
+      omega arith,
+      ap (λ (r : ℕ). crcFrom r (drop (l .i + 1) frame)) (c .crc-byte .ensures) ∙ sym (crcFrom-step (l .register) frame (l .i) (omega arith))
+          ∙ l .inv .1,
+    )
 
 returns : tie.Need-returns Inv-loop μ-loop
 returns c =
     let l = c .before .loop in
-    cc (crcFrom-end (l .register) (c .before .before .before .args .frame .now) (l .i) (omega arith))
+    sym (crcFrom-end (l .register) (c .before .before .before .args .frame .now) (l .i) (omega arith)) ∙ l .inv .1
 
 pub crc-bytes-spec : {M : Type 1} → statement M
 crc-bytes-spec =

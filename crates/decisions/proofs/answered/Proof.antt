@@ -2,7 +2,7 @@
 -- Assumes nothing.
 use borrow.Author.Needs.{needs}
 use Rattle.model.specs.Numbers.{answered}
-use Rattle.decisions.specs.Deciding.{plain}
+use Rattle.refusals.specs.Deciding.{plain}
 use Rattle.decisions.proofs.answered.Statement.{statement}
 use Rattle.decisions.proofs.answered.Tie as tie
 

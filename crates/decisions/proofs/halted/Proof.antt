@@ -2,7 +2,7 @@
 -- Assumes nothing.
 use borrow.Author.Needs.{needs}
 use Rattle.model.specs.Frame.{halted}
-use Rattle.decisions.specs.Deciding.{plain}
+use Rattle.refusals.specs.Deciding.{plain}
 use Rattle.decisions.proofs.halted.Statement.{statement}
 use Rattle.decisions.proofs.halted.Tie as tie
 

@@ -1,6 +1,7 @@
 -- `fields::block_of` meets its contract. The loop's invariant: the first k bytes are the block's. The measure is what is left of 16.
 -- Assumes nothing.
 use mathlib.Core.Path.{_≡_, refl, sym, _∙_}
+use mathlib.Core.List.{[], _∷_, _++_}
 use Prim.Native.Nat.{_-_, _≤_}
 use native.Mathlib.Numerals.{add-one}
 use native.Mathlib.Omega.{arith}
@@ -28,7 +29,8 @@ loop-again c =
     let long : length b ≡ 16 = block-long (a .s .now) (a .at) in (
       omega arith,
       length-set (l .block) (l .k) x ∙ l .inv .1,
-      rw (add-one, take-suc-set (l .block) (l .k) x (omega arith), take-suc b (l .k) 0 (omega arith)) (cc),
+      rw (add-one, take-suc-set (l .block) (l .k) x (omega arith), take-suc b (l .k) 0 (omega arith))
+          (λ i. l .inv .2 i ++ (same i ∷ [])),
     )
 
 returns : tie.Need-returns Inv-loop μ-loop

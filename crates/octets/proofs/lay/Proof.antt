@@ -1,10 +1,11 @@
 -- `octets::lay` meets its contract. The loop's invariant: the first i bytes are laid. The measure is what is left of them.
 -- Assumes nothing.
-use mathlib.Core.Path.{_≡_, refl, ap, _∙_}
-use Prim.Native.Nat.{_-_, _≤_}
+use mathlib.Core.Path.{_≡_, refl, sym, ap, _∙_}
+use mathlib.Core.List.{List}
+use Prim.Native.Nat.{ℕ, _+_, _-_, _≤_}
 use native.Mathlib.Numerals.{add-one}
 use native.Mathlib.Omega.{arith}
-use lib.ListN.{length, take}
+use lib.ListN.{length, getD, take, set}
 use lib.Seq.{sets, length-sets, take-all}
 use borrow.Author.Needs.{needs}
 use Rattle.octets.proofs.Laid.{sets-suc}
@@ -22,9 +23,15 @@ loop-holds c = (omega arith, refl)
 
 loop-again : tie.Need-loop-again Inv-loop μ-loop
 loop-again c =
-    let l = c .before .before .before .before .before .before .loop in
-    let a = c .before .before .before .before .before .before .before .before .before .args in
-    (omega arith, cc (sets-suc (a .s .now) (a .first) (a .bs .now) (l .i) (omega arith), add-one (l .i)))
+    let put = c .before .before in
+    let l = put .before .before .before .before .loop in
+    let a = put .before .before .before .before .before .before .before .args in (
+      omega arith,
+      put .put .ensures
+          ∙ ap (λ (w : List ℕ). set w (a .first + l .i) (getD (a .bs .now) (l .i) 0)) (l .inv .1)
+          ∙ sym (sets-suc (a .s .now) (a .first) (a .bs .now) (l .i) (omega arith))
+          ∙ ap (λ (k : ℕ). sets (a .s .now) (a .first) (take k (a .bs .now))) (sym (add-one (l .i))),
+    )
 
 same-length : tie.Need-same-length Inv-loop μ-loop
 same-length c =

@@ -18,28 +18,30 @@ returns c =
     rw (frame-other (now (a .«record»)) (λ e. omega arith) (now (a .store)) (now (a .f)) (now (a .random)) (now (a .reply)))
     (c .answer-of .ensures, (refl, (refl, refl)))
 
-answer-of-requires-2 : tie.Need-answer-of-requires-2
-answer-of-requires-2 c κs =
-    let call = c .before .before .before .before .before .before .before .before .before .before in
-    let a = call .before .before .before .before .before .before .before .before .before .before .before .args in
-    rw (call .frame .ensures .1 .0) (count-small _ (now (a .store)) (now (a .f)) (now (a .random)) (length (now (a .reply))))
+told-requires : tie.Need-told-requires
+told-requires c κs =
+    let call = c .before .before .before .before .before in
+    let a = call .before .before .before .before .before .before .before .before .before .before .before .args in (
+      search needs,
+      rw (call .frame .ensures .1 .0) (count-small _ (now (a .store)) (now (a .f)) (now (a .random)) (length (now (a .reply)))),
+    )
 
 returns-2 : tie.Need-returns-2
 returns-2 c =
-    let hand = c .before .before .before .before in
-    let call = hand .before .before .before .before .before .before .before in
+    let told = c .before .before in
+    let call = told .before .before .before .before .before .before in
     let rec = call .before .before .before in
     let a = rec .before .before .before .before .before .before .before .before .args in
     let b = now (a .«record») in
     let e = rw (rec .record-of .ensures) at (call .frame .ensures) in
     rw (frame-fits b (omega arith) (now (a .store)) (now (a .f)) (now (a .random)) (now (a .reply))) (
-      c .answer-of2 .ensures ∙ (λ i. answerOf (e .0 i) ((c .before .barred-place .ensures .0 ∙ ap barredPlace (e .1 .1 .0)) i) (e .1 .0 i)),
-      (hand .hand-back .ensures ∙ (λ i. handedBack (e .0 i) (e .1 .1 .1 .0 i) b), (e .1 .1 .1 .1 .0, e .1 .1 .1 .1 .1)),
+      told .told .ensures .0 ∙ (λ i. answerOf (e .0 i) (barredPlace (e .1 .1 .0 i)) (e .1 .0 i)),
+      (told .told .ensures .1 ∙ (λ i. handedBack (e .0 i) (e .1 .1 .1 .0 i) b), (e .1 .1 .1 .1 .0, e .1 .1 .1 .1 .1)),
     )
 
 pub kz-frame-spec : {M : Type 1} → statement M
 kz-frame-spec =
     tie.close
     (tie.spec
-    (λ c κs. search needs) returns (λ c κs. search needs) (λ c κs. search needs) (λ c κs. search needs) (λ c κs. search needs) answer-of-requires-2
+    (λ c κs. search needs) returns (λ c κs. search needs) (λ c κs. search needs) told-requires
     (λ c. search needs) (λ c. search needs) (λ c. search needs) returns-2)

@@ -1,10 +1,9 @@
--- `tag_c::kz_load` meets its contract: another length is 10, and else what `tag::load` hands back, as bytes.
+-- `tag_c::kz_load` meets its contract: another length is 10, and else what `c_image::load` leaves.
 -- Assumes nothing.
 use borrow.Author.Needs.{needs}
-use mathlib.Core.Path.{refl, _∙_}
+use mathlib.Core.Path.{refl}
 use native.Mathlib.Omega.{arith}
 use denote.Ref.{now}
-use Rattle.c_record.specs.Record.{handedBack}
 use Rattle.tag_c.proofs.Calls.{load-fits, load-other}
 use Rattle.tag_c.proofs.kz_load.Statement.{statement}
 use Rattle.tag_c.proofs.kz_load.Tie as tie
@@ -16,16 +15,9 @@ returns c =
 
 returns-2 : tie.Need-returns-2
 returns-2 c =
-    let hand = c .before .before in
-    let call = hand .before .before .before .before .before in
-    let a = call .before .before .before .before .before .before .args in
-    let b = now (a .«record») in
-    let e = call .load .ensures in
-    rw (load-fits b (omega arith) (now (a .store)) (now (a .file)))
-    (e .0, (hand .hand-back .ensures ∙ (λ i. handedBack (e .0 i) (e .1 .0 i) b), e .1 .1))
+    let call = c .before .before .before .before in
+    let a = call .before .before .before .before .before .before .before .args in
+    rw (load-fits (now (a .«record»)) (omega arith) (now (a .store)) (now (a .file))) (call .load .ensures)
 
 pub kz-load-spec : {M : Type 1} → statement M
-kz-load-spec =
-    tie.close
-    (tie.spec
-    returns (λ c κs. search needs) (λ c κs. search needs) (λ c. search needs) (λ c. search needs) returns-2)
+kz-load-spec = tie.close (tie.spec returns (λ c κs. search needs) (λ c. search needs) (λ c. search needs) returns-2)

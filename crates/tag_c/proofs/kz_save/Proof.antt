@@ -1,4 +1,4 @@
--- `tag_c::kz_save` meets its contract: another length is 10, and else what `tag::save` leaves.
+-- `tag_c::kz_save` meets its contract: another length is 10, and else what `c_image::save` leaves.
 -- Assumes nothing.
 use borrow.Author.Needs.{needs}
 use mathlib.Core.Path.{refl}
@@ -16,11 +16,8 @@ returns c =
 returns-2 : tie.Need-returns-2
 returns-2 c =
     let call = c .before .before in
-    let rec = call .before .before in
-    let a = rec .before .before .before .before .before .args in
-    rw (save-fits (now (a .«record»)) (omega arith) (now (a .store)) (now (a .file))) (rw (rec .record-of .ensures) at (call .save .ensures))
+    let a = call .before .before .before .before .before .before .args in
+    rw (save-fits (now (a .«record»)) (omega arith) (now (a .store)) (now (a .file))) (call .save .ensures)
 
 pub kz-save-spec : {M : Type 1} → statement M
-kz-save-spec = tie.close
-    (tie.spec
-    returns (λ c κs. search needs) (λ c κs. search needs) (λ c. search needs) returns-2)
+kz-save-spec = tie.close (tie.spec returns (λ c κs. search needs) (λ c. search needs) returns-2)

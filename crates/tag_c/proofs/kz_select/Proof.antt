@@ -1,13 +1,9 @@
 -- `tag_c::kz_select` meets its contract: another length is 10, and else the bytes of the record after the event.
 -- Assumes nothing.
 use borrow.Author.Needs.{needs}
-use mathlib.Core.Path.{refl, ap, _∙_}
+use mathlib.Core.Path.{refl}
 use native.Mathlib.Omega.{arith}
 use denote.Ref.{now}
-use Rattle.events.specs.declared.Answer.{Answer}
-use Rattle.model.specs.declared.Tag.{Tag}
-use Rattle.model.specs.Record as tag-record
-use Rattle.c_record.specs.Record.{bytesOf}
 use Rattle.tag_c.proofs.Calls.{select-fits, select-other}
 use Rattle.tag_c.proofs.kz_select.Statement.{statement}
 use Rattle.tag_c.proofs.kz_select.Tie as tie
@@ -17,17 +13,8 @@ returns c = rw (select-other (now (c .before .before .args .«record»)) (λ e. 
 
 returns-2 : tie.Need-returns-2
 returns-2 c =
-    let put = c .before .before in
-    let call = put .before .before .before in
-    let b = now (call .before .before .before .before .before .args .«record») in
-    rw (select-fits b (omega arith)) (
-      ap (λ (a : Answer). a .number) (call .select .ensures),
-      put .put-record .ensures ∙ ap (λ (a : Answer). bytesOf (a .tag)) (call .select .ensures)
-          ∙ ap (λ (t : Tag). bytesOf (tag-record.select t)) (call .before .record-of .ensures),
-    )
+    let call = c .before .before in
+    rw (select-fits (now (call .before .before .before .before .args .«record»)) (omega arith)) (call .select .ensures)
 
 pub kz-select-spec : {M : Type 1} → statement M
-kz-select-spec =
-    tie.close
-    (tie.spec
-    returns (λ c κs. search needs) (λ c κs. search needs) (λ c κs. search needs) (λ c. search needs) returns-2)
+kz-select-spec = tie.close (tie.spec returns (λ c κs. search needs) (λ c. search needs) returns-2)

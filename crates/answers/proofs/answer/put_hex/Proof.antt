@@ -2,14 +2,13 @@
 -- Assumes nothing.
 use mathlib.Core.Path.{_≡_, refl, ap, _∙_}
 use Prim.Native.Nat.{_-_, _*_, _≤_}
-use native.Mathlib.Numerals.{add-one}
 use native.Mathlib.Omega.{arith}
 use borrow.Author.Needs.{needs}
 use lib.ListN.{length}
 use lib.Seq.{sets, length-sets}
 use Rattle.text.specs.Listed.{listed}
 use Rattle.answers.specs.Answer.{letterAt}
-use Rattle.text.proofs.Listed.{listed-length, listed-suc}
+use Rattle.text.proofs.Listed.{listed-length, listed-put}
 use Rattle.answers.proofs.answer.put_hex.Statement.{statement}
 use Rattle.answers.proofs.answer.put_hex.Tie as tie
 
@@ -25,9 +24,12 @@ loop-holds c = (omega arith, refl)
 
 loop-again : tie.Need-loop-again Inv-loop μ-loop
 loop-again c =
-    let l = c .before .before .before .before .before .before .loop in
-    let a = c .before .before .before .before .before .before .before .before .before .args in
-    (omega arith, cc (listed-suc (a .out .now) (a .at) (letterAt (a .bytes .now)) (l .j), add-one (l .j)))
+    let put = c .before .before in
+    let l = put .before .before .before .before .loop in
+    let a = put .before .before .before .before .before .before .before .args in (
+      omega arith,
+      listed-put (a .out .now) (l .out) _ (a .at) (l .j) _ (letterAt (a .bytes .now)) (l .inv .1) (put .before .letter-at .ensures) (put .put .ensures),
+    )
 
 same-length : tie.Need-same-length Inv-loop μ-loop
 same-length c =

@@ -8,13 +8,16 @@ use Rattle.columns.proofs.state.columns_of.Statement.{statement}
 use Rattle.columns.proofs.state.columns_of.Tie as tie
 
 returns : tie.Need-returns
-returns c = (λ i. c .before .before .before .word-of .ensures i ++ c .before .before .word-of2 .ensures i ++ c .before .word-of3 .ensures i ++ c .word-of4 .ensures i) ∙ state-at (c .before .before .before .before .args .t1) (c .before .before .before .before .good .0 .1 .0 .1)
+returns c =
+    let third = c .before .before in
+    let second = third .before .before in
+    let first = second .before .before in
+    let start = first .before .before in
+    (λ i. first .column-of .ensures i ++ second .column-of2 .ensures i ++ third .column-of3 .ensures i ++ c .column-of4 .ensures i)
+    ∙ state-at (start .args .t1) (start .good .0 .1 .0 .1)
 
 pub columns-of-spec : {M : Type 1} → statement M
 columns-of-spec =
     tie.close
     (tie.spec
-    (λ c. search needs) (λ c. search needs) (λ c. search needs) (λ c. search needs) (λ c κs. search needs) (λ c. search needs)
-    (λ c. search needs) (λ c. search needs) (λ c. search needs) (λ c κs. search needs) (λ c. search needs) (λ c. search needs)
-    (λ c. search needs) (λ c. search needs) (λ c κs. search needs) (λ c. search needs) (λ c. search needs) (λ c. search needs)
-    (λ c. search needs) (λ c κs. search needs) returns)
+    (λ c κs. search needs) (λ c κs. search needs) (λ c κs. search needs) (λ c κs. search needs) returns)

@@ -1,16 +1,15 @@
 -- `script::line::lay_frame` meets its contract. The loop's invariant: the first i bytes are laid. The measure is what is left of them.
 -- Assumes nothing.
-use mathlib.Core.Path.{_≡_, refl, ap, _∙_}
-use Prim.Native.Nat.{_-_, _≤_}
+use mathlib.Core.Path.{_≡_, refl, sym, ap, _∙_}
+use Prim.Native.Nat.{ℕ, _-_, _≤_}
 use native.Mathlib.Nat.{zero-add}
-use native.Mathlib.Numerals.{add-one}
 use native.Mathlib.Omega.{arith}
 use borrow.Author.Needs.{needs}
-use lib.ListN.{length}
+use lib.ListN.{length, set}
 use lib.Seq.{sets, length-sets}
 use Rattle.text.specs.Listed.{listed}
 use Rattle.script.specs.Line.{byteAt}
-use Rattle.text.proofs.Listed.{listed-suc}
+use Rattle.text.proofs.Listed.{listed-put}
 use Rattle.script.proofs.line.lay_frame.Statement.{statement}
 use Rattle.script.proofs.line.lay_frame.Tie as tie
 
@@ -26,9 +25,13 @@ loop-holds c = (omega arith, refl)
 
 loop-again : tie.Need-loop-again Inv-loop μ-loop
 loop-again c =
-    let l = c .before .before .before .before .before .before .loop in
-    let a = c .before .before .before .before .before .before .before .before .before .args in
-    (omega arith, cc (listed-suc (a .frame .now) 0 (byteAt (a .line .now)) (l .i), add-one (l .i), zero-add (l .i)))
+    let put = c .before .before in
+    let l = put .before .before .before .before .loop in
+    let a = put .before .before .before .before .before .before .before .args in (
+      omega arith,
+      listed-put (a .frame .now) (l .frame) _ 0 (l .i) _ (byteAt (a .line .now)) (l .inv .1) (put .before .byte-at .ensures)
+          (put .put .ensures ∙ ap (λ (k : ℕ). set (l .frame) k (put .before .byte-at .result)) (sym (zero-add (l .i)))),
+    )
 
 same-length : tie.Need-same-length Inv-loop μ-loop
 same-length c =
