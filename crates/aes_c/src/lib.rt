@@ -1,4 +1,6 @@
 // AES-128 for C and Rust: thin exported calls that work in place on the caller's block.
+#![tactic(auto)]
+
 ghost use Rattle.std.specs.Prelude.{◌≡◌};
 ghost use Rattle.fips197.specs.Cipher.{encipher, decipher};
 

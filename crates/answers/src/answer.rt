@@ -4,6 +4,7 @@ ghost use Rattle.std.proofs.lemmas.List.Edits.{sets};
 ghost use Rattle.answers.specs.Answer.{letter_of, number_text, place_text, half_at, letter_at, hex_text, data_text, answer_text, WrittenAt};
 
 // A hexadecimal digit.
+#[tactic(auto, unfolding(crate::specs::Answer::letter_of))]
 fn letter(d: u8) -> u8
     requires { d < 16 }
     ensures { result ≡ letter_of d }
@@ -12,6 +13,7 @@ fn letter(d: u8) -> u8
 }
 
 // Half j of the bytes: the high one of a byte is before the low one.
+#[tactic(auto, unfolding(crate::specs::Answer::half_at))]
 fn half_at(bytes: &[u8], j: usize) -> u8
     ensures value { result ≡ half_at bytes.now j }
     ensures upper_bound { result < 16 }
@@ -20,6 +22,7 @@ fn half_at(bytes: &[u8], j: usize) -> u8
     if j % 2 == 0 { b / 16 } else { b % 16 }
 }
 
+#[tactic(auto, unfolding(crate::specs::Answer::letter_at))]
 fn letter_at(bytes: &[u8], j: usize) -> u8
     ensures { result ≡ letter_at bytes.now j }
 {
@@ -41,6 +44,7 @@ fn put_number(out: &mut [u8], n: u8) -> usize
 }
 
 // Two digits for each byte.
+#[tactic(auto, unfolding(text::specs::Listed::listed))]
 fn put_hex(out: &mut [u8], at: usize, bytes: &[u8]) -> usize
     requires at_bound { at ≤ 5 }
     requires bytes_len_bound { length bytes.now ≤ 242 }
@@ -85,6 +89,7 @@ fn put_data(out: &mut [u8], at: usize, bytes: &[u8]) -> usize
 }
 
 // The line for a number, a place and data, at the start of a buffer; returns how long it is.
+#[tactic(auto, unfolding(crate::specs::Answer::answer_text))]
 pub fn answer(out: &mut [u8], number: u8, place: u8, bytes: &[u8]) -> usize
     requires place_bound { place < 10 }
     requires bytes_len_bound { length bytes.now ≤ 242 }

@@ -1,10 +1,13 @@
 // The answer of a frame as one number of 64 bits (docs/C-FORM.md, "The answer of kz_frame").
+#![tactic(auto)]
+
 ghost use Rattle.std.specs.Prelude.{◌≡◌, ◌<◌};
 ghost use Rattle.c_answer.specs.Answer.{packed, answer_of, count_of};
 
 use model::Reply;
 
 // Number, reply kind, nibble, reason and byte count; there is no bit count.
+#[tactic(auto, unfolding(crate::specs::Answer::packed))]
 fn packed(number: u8, kind: u8, nibble: u8, reason: u8, count: u16) -> u64
     ensures { result ≡ packed number kind nibble reason count 0 }
 {

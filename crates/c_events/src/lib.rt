@@ -1,4 +1,6 @@
 // The two events in the C form, over a record buffer of the right length (docs/C-FORM.md). Any record is taken: its stored part stays as it is.
+#![tactic(auto)]
+
 ghost use Rattle.std.specs.Prelude.{◌≡◌, length};
 ghost use Rattle.model.specs.Record.{power, select};
 ghost use Rattle.c_record.specs.Record.{record_size, record_of, bytes_of};

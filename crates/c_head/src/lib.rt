@@ -1,4 +1,6 @@
 // The first 16 bytes of the tag's record as the C form hands it out: counters, failed count, state and key number (docs/C-FORM.md, "The record").
+#![tactic(auto)]
+
 ghost use Rattle.std.specs.Prelude.{◌≡◌, ◌++◌, length, get_or};
 ghost use Rattle.std.proofs.lemmas.List.Edits.{sets};
 ghost use Rattle.model.specs.Counters.{low_first};

@@ -1,4 +1,6 @@
 // Loading and saving in the C form, over a record buffer of the right length (docs/C-FORM.md).
+#![tactic(auto)]
+
 ghost use Rattle.std.specs.Prelude.{◌≡◌, length};
 ghost use Rattle.model.specs.Image.{load, save};
 ghost use Rattle.c_record.specs.Record.{record_size, record_of, handed_back};

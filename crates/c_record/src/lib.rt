@@ -1,4 +1,6 @@
 // The tag's record read from bytes, as the C form passes it (docs/C-FORM.md, "The record").
+#![tactic(auto)]
+
 ghost use Rattle.std.specs.Prelude.{◌≡◌};
 ghost use Rattle.c_record.specs.Record.{state_of, record_of};
 
@@ -8,6 +10,7 @@ use model::{State, Tag};
 pub const RECORD_SIZE: usize = 48;
 
 // The key number counts only while CHALLENGED.
+#[tactic(auto, unfolding(crate::specs::Record::state_of))]
 fn state_of(number: u8, key: u8) -> State
     ensures { result ≡ state_of number key }
 {
@@ -22,6 +25,7 @@ fn state_of(number: u8, key: u8) -> State
 }
 
 // The record that the bytes hold.
+#[tactic(auto, unfolding(crate::specs::Record::record_of))]
 pub fn record_of(b: &[u8]) -> Tag
     ensures { result ≡ record_of b.now }
 {

@@ -1,4 +1,6 @@
 // What a frame hands back in the C form, over a record buffer of the right length (docs/C-FORM.md).
+#![tactic(auto)]
+
 ghost use Rattle.std.specs.Prelude.{◌≡◌, ◌<◌, length};
 ghost use Rattle.model.specs.Writing.{barred_place};
 ghost use Rattle.c_record.specs.Record.{record_size, handed_back};

@@ -1,4 +1,6 @@
 // The tag's record written back as bytes, as the C form hands it out (docs/C-FORM.md, "The record").
+#![tactic(auto)]
+
 ghost use Rattle.std.specs.Prelude.{◌≡◌, ◌++◌, length};
 ghost use Rattle.c_record.specs.Record.{record_size, head_of, bytes_of, handed_back};
 
@@ -23,6 +25,7 @@ fn lay_fields(
 }
 
 // The bytes of a record, over the whole buffer.
+#[tactic(auto, unfolding(c_record::specs::Record::bytes_of))]
 pub fn put_record(b: &mut [u8], tag: Tag)
     requires { length b.old ≡ record_size }
     ensures { b.new ≡ bytes_of tag }
@@ -36,6 +39,7 @@ pub fn put_record(b: &mut [u8], tag: Tag)
 }
 
 // The record after a call: 1 and 10 leave the buffer unwritten.
+#[tactic(auto, unfolding(c_record::specs::Record::keeps))]
 pub fn hand_back(b: &mut [u8], number: u8, next: Tag)
     requires { length b.old ≡ record_size }
     ensures { b.new ≡ handed_back number next b.old }

@@ -1,1 +1,3 @@
 // No functions: the rows are definitions (specs/), and that the tag of `model` meets them is a theorem (proofs/).
+
+#![tactic(auto)]

@@ -1,4 +1,6 @@
 // The CBC mode of NIST SP 800-38A over `aes`: keys and blocks by value, for any bytes.
+#![tactic(auto)]
+
 ghost use Rattle.std.specs.Prelude.{◌≡◌};
 ghost use Rattle.fips197.specs.Cbc.{cbc_encipher, cbc_decipher};
 ghost use Rattle.cbc.specs.TwoBlocks.{cbc_decipher_two};
@@ -7,6 +9,7 @@ use aes::TwoBlocks;
 use columns::state;
 
 // One block enciphered in CBC mode: chain is the ciphertext before it, or the initialization vector.
+#[tactic(auto, unfolding(fips197::specs::Cbc::cbc_encipher))]
 pub fn cbc_encipher(key: [u8; 16], chain: [u8; 16], block: [u8; 16]) -> [u8; 16]
     ensures { result ≡ cbc_encipher key chain block }
 {
@@ -14,6 +17,7 @@ pub fn cbc_encipher(key: [u8; 16], chain: [u8; 16], block: [u8; 16]) -> [u8; 16]
 }
 
 // One block deciphered in CBC mode: chain is the ciphertext before it, or the initialization vector.
+#[tactic(auto, unfolding(fips197::specs::Cbc::cbc_decipher))]
 pub fn cbc_decipher(key: [u8; 16], chain: [u8; 16], block: [u8; 16]) -> [u8; 16]
     ensures { result ≡ cbc_decipher key chain block }
 {
@@ -21,6 +25,7 @@ pub fn cbc_decipher(key: [u8; 16], chain: [u8; 16], block: [u8; 16]) -> [u8; 16]
 }
 
 // The first two blocks of a lent ciphertext deciphered in CBC mode; a byte past its end counts 0.
+#[tactic(auto, unfolding(crate::specs::TwoBlocks::cbc_decipher_two, fips197::specs::Cbc::cbc_decipher, aes::specs::TwoBlocks::decipher_two))]
 pub fn cbc_decipher_two(key: [u8; 16], chain: [u8; 16], ciphertext: &[u8]) -> TwoBlocks
     ensures { result ≡ cbc_decipher_two key chain ciphertext.now }
 {

@@ -1,4 +1,6 @@
 // Part 1 of AUTHENTICATE, 009 8.6.1, 8.6.5 and 10.10: the challenge.
+#![tactic(auto)]
+
 ghost use Rattle.std.specs.Prelude.{◌≡◌, length};
 ghost use Rattle.model.specs.declared.Command.TheVariants.{Authenticate};
 ghost use Rattle.model.specs.Authentication.{challenged};
@@ -7,6 +9,7 @@ ghost use Rattle.model.specs.Frame.{commanded};
 use model::{Barred, Decision, Effect, Map, Say, State, Tag};
 
 // Part 1 done: the random block, enciphered, goes out and is kept.
+#[tactic(auto, unfolding(model::specs::Authentication::challenged))]
 fn challenge(map: Map, tag: Tag, s: &[u8], k: u8, random: &[u8]) -> Decision
     requires { length random.now ≡ 16 }
     ensures { result ≡ challenged map tag s.now k random.now }
@@ -25,6 +28,7 @@ fn challenge(map: Map, tag: Tag, s: &[u8], k: u8, random: &[u8]) -> Decision
 }
 
 // AUTHENTICATE, part 1.
+#[tactic(auto, unfolding(model::specs::Frame::command_number, model::specs::Frame::command_done, model::specs::Frame::command_reason))]
 pub fn authenticate(map: Map, tag: Tag, s: &[u8], f: &[u8], random: &[u8]) -> Decision
     requires { length random.now ≡ 16 }
     ensures { result ≡ commanded Authenticate map tag s.now f.now random.now }

@@ -8,7 +8,7 @@ ghost use Rattle.fips197.specs.Cbc.{xor_block, block_of};
 use crate::words;
 use crate::words::Word;
 
-#[derive(Drop)]
+#[derive(Clone, Copy)]
 pub struct Columns {
     pub c0: Word,
     pub c1: Word,
@@ -54,6 +54,7 @@ pub fn sub_bytes(table: &[u8; 256], s: Columns) -> Columns
 }
 
 // Row r moves r columns to the left.
+#[tactic(auto, unfolding(fips197::specs::State::shift_rows))]
 pub fn shift_rows(s: Columns) -> Columns
     ensures { columns_of result ≡ shift_rows (columns_of s) }
 {
@@ -66,6 +67,7 @@ pub fn shift_rows(s: Columns) -> Columns
 }
 
 // Row r moves r columns to the right.
+#[tactic(auto, unfolding(fips197::specs::State::inv_shift_rows))]
 pub fn inv_shift_rows(s: Columns) -> Columns
     ensures { columns_of result ≡ inv_shift_rows (columns_of s) }
 {
@@ -85,6 +87,7 @@ fn add_word(w: &[u8; 176], i: usize, u: Word) -> Word
     words::xor_word(u, words::key_word(w, i))
 }
 
+#[tactic(auto, unfolding(fips197::specs::State::add_round_key))]
 pub fn add_round_key(w: &[u8; 176], n: usize, s: Columns) -> Columns
     requires { n < 11 }
     ensures { columns_of result ≡ add_round_key w.now n (columns_of s) }
@@ -99,6 +102,7 @@ pub fn add_round_key(w: &[u8; 176], n: usize, s: Columns) -> Columns
 }
 
 // The sixteen bytes of s from byte n on; a byte past its end counts 0.
+#[tactic(auto, unfolding(fips197::specs::Cbc::block_of))]
 pub fn block_of(s: &[u8], n: usize) -> [u8; 16]
     requires { n < 2048 }
     ensures { result ≡ block_of s.now n }
@@ -111,6 +115,7 @@ pub fn block_of(s: &[u8], n: usize) -> [u8; 16]
     })
 }
 
+#[tactic(auto, unfolding(fips197::specs::Cbc::xor_block))]
 fn xor_columns(s: Columns, v: Columns) -> Columns
     ensures { columns_of result ≡ xor_block (columns_of s) (columns_of v) }
 {

@@ -3,7 +3,7 @@ ghost use Rattle.std.specs.Prelude.{◌≡◌, [], ◌∷◌, ◌<◌, get_or};
 ghost use Rattle.fips197.specs.KeyExpansion.{word_of, xor_word};
 ghost use Rattle.columns.specs.Words.{bytes_of, sub_word_by, word_from};
 
-#[derive(Drop)]
+#[derive(Clone, Copy)]
 pub struct Word {
     pub a: u8,
     pub b: u8,

@@ -1,5 +1,7 @@
 // INCR_CNT and HLTA: each judges its own numbers, and says what it comes to where none applies. The functions of all commands, here and in `reads`,
 // `writes`, `challenges` and `login`, have the same signature, so that the dispatch is one line an arm.
+#![tactic(auto)]
+
 ghost use Rattle.std.specs.Prelude.{◌≡◌};
 ghost use Rattle.model.specs.declared.Command.TheVariants.{IncrCnt, Halt};
 ghost use Rattle.model.specs.Frame.{commanded};
@@ -8,6 +10,7 @@ use judge::frame::data_of;
 use model::{Barred, Decision, Effect, Map, Tag};
 
 // INCR_CNT, 009 10.6.
+#[tactic(auto, unfolding(model::specs::Frame::command_number, model::specs::Frame::command_done, model::specs::Frame::command_reason))]
 pub fn incr_cnt(map: Map, tag: Tag, s: &[u8], f: &[u8], random: &[u8]) -> Decision
     ensures { result ≡ commanded IncrCnt map tag s.now f.now random.now }
 {
@@ -23,6 +26,7 @@ pub fn incr_cnt(map: Map, tag: Tag, s: &[u8], f: &[u8], random: &[u8]) -> Decisi
 }
 
 // HLTA, 009 Table 20.
+#[tactic(auto, unfolding(model::specs::Frame::command_number, model::specs::Numbers::number_if, model::specs::Frame::command_done, model::specs::Frame::command_reason))]
 pub fn halt(map: Map, tag: Tag, s: &[u8], f: &[u8], random: &[u8]) -> Decision
     ensures { result ≡ commanded Halt map tag s.now f.now random.now }
 {

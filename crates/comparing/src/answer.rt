@@ -2,8 +2,8 @@
 // nibble or the number of bytes; and then the whole reply buffer.
 ghost use Rattle.std.specs.Prelude.{◌≤◌, ◌<◌, length};
 
-use libc::STDOUT_FILENO;
 use model::Reply;
+use reports::report::STDOUT_FILENO;
 use reports::{digits, parts, report};
 
 // What stands before the reply buffer, which has the 242 bytes that document 01 asks for.

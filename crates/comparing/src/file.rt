@@ -2,8 +2,8 @@
 ghost use Rattle.std.specs.Prelude.{◌<◌, length};
 
 use crate::answer;
-use libc::STDOUT_FILENO;
 use model::Tag;
+use reports::report::STDOUT_FILENO;
 use reports::{digits, parts, report};
 
 // A change of a file: its first byte is a place, and the others are laid over the file from there on.

@@ -1,4 +1,6 @@
 // Document 01, "Counters": READ_CNT and INCR_CNT, 009 8.5.9, 10.5 and 10.6.
+#![tactic(auto)]
+
 ghost use Rattle.std.specs.Prelude.{◌≡◌, ◌+◌, ltb, get_or};
 ghost use Rattle.model.specs.Record.{counter, highest_counter};
 ghost use Rattle.model.specs.Counters.{counter_barred, read_cnt_number, increment, incr_cnt_number};
@@ -23,6 +25,7 @@ pub fn counter(tag: Tag, n: u8) -> u32
 }
 
 // Counter 2 needs AUTHENTICATED, unless its setting opens it.
+#[tactic(auto, unfolding(model::specs::Counters::counter_barred))]
 fn counter_barred(st: State, opened: bool, n: u8) -> bool
     ensures { result ≡ counter_barred st opened n }
 {
@@ -30,6 +33,7 @@ fn counter_barred(st: State, opened: bool, n: u8) -> bool
 }
 
 // READ_CNT of counter n.
+#[tactic(auto, unfolding(model::specs::Counters::read_cnt_number))]
 pub fn read_cnt_number(map: Map, st: State, s: &[u8], n: u8) -> u8
     ensures { result ≡ read_cnt_number map st s.now n }
 {
@@ -54,6 +58,7 @@ fn passes_end(tag: Tag, n: u8, q: Quad) -> bool
 }
 
 // INCR_CNT of counter n by the value q.
+#[tactic(auto, unfolding(model::specs::Counters::incr_cnt_number))]
 pub fn incr_cnt_number(map: Map, tag: Tag, s: &[u8], n: u8, q: Quad) -> u8
     ensures { result ≡ incr_cnt_number map tag s.now n q }
 {

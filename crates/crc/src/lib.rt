@@ -1,4 +1,6 @@
 // CRC_A of ISO/IEC 14443-3 type A, by half-bytes from a table of 16, and its two bytes as they follow a frame.
+#![tactic(auto)]
+
 ghost use Rattle.std.specs.Prelude.{◌≡◌, [], ◌∷◌};
 ghost use Rattle.crc.specs.CrcA.{crc_bits, crc_byte, crc_a, on_air};
 ghost use Rattle.crc.specs.HalfBytes.{half_table};
@@ -12,7 +14,7 @@ const HALF_BYTES: [u16; 16] = [
 ];
 
 // The two bytes of a CRC in the order in which they are sent.
-#[derive(Drop)]
+#[derive(Clone, Copy)]
 pub struct Trailer {
     pub first: u8,
     pub second: u8,
@@ -27,6 +29,7 @@ fn crc_half(table: &[u16; 16], register: u16) -> u16
 }
 
 // The register after one byte: the byte is xored in, and its low half-byte is shifted out first.
+#[tactic(auto, unfolding(crate::specs::CrcA::crc_byte))]
 fn crc_byte(table: &[u16; 16], register: u16, byte: u8) -> u16
     requires { table.now ≡ half_table }
     ensures { result ≡ crc_byte register byte }
@@ -36,6 +39,7 @@ fn crc_byte(table: &[u16; 16], register: u16, byte: u8) -> u16
 }
 
 // The register after all bytes of a frame.
+#[tactic(auto, unfolding(crate::specs::CrcA::crc_a))]
 fn crc_bytes(table: &[u16; 16], frame: &[u8]) -> u16
     requires { table.now ≡ half_table }
     ensures { result ≡ crc_a frame.now }
@@ -50,6 +54,7 @@ fn crc_bytes(table: &[u16; 16], frame: &[u8]) -> u16
 }
 
 // The CRC_A of a frame.
+#[tactic(auto, unfolding(crate::specs::HalfBytes::half_table))]
 pub fn crc_a(frame: &[u8]) -> u16
     ensures { result ≡ crc_a frame.now }
 {
@@ -58,6 +63,7 @@ pub fn crc_a(frame: &[u8]) -> u16
 }
 
 // The bytes that follow a frame: low byte first.
+#[tactic(auto, unfolding(crate::specs::CrcA::on_air))]
 pub fn on_air(crc: u16) -> Trailer
     ensures { result.first ∷ result.second ∷ [] ≡ on_air crc }
 {

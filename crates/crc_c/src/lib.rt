@@ -1,4 +1,6 @@
 // CRC_A for C and Rust: a thin exported call, for the timing.
+#![tactic(auto)]
+
 ghost use Rattle.std.specs.Prelude.{◌≡◌};
 ghost use Rattle.crc.specs.CrcA.{crc_a};
 

@@ -1,4 +1,6 @@
 // What a frame comes to: the checks in document 01's order, then the command. It only reads.
+#![tactic(auto)]
+
 ghost use Rattle.std.specs.Prelude.{◌≡◌, false, ◌≤◌, ◌<◌, length};
 ghost use Rattle.model.specs.Record.{is_waiting};
 ghost use Rattle.model.specs.Telling.{damaged};
@@ -27,6 +29,7 @@ fn command(c: Command, map: Map, tag: Tag, s: &[u8], f: &[u8], random: &[u8]) ->
 }
 
 // A frame of right CRC_A to a tag that is not WAITING: 3, 4 and the command's own.
+#[tactic(auto, unfolding(model::specs::Telling::told_number))]
 fn told(map: Map, tag: Tag, s: &[u8], f: &[u8], random: &[u8], room: usize) -> Decision
     requires room_value { misfit map tag s.now random.now room ≡ false }
     requires state_value { is_waiting tag.state ≡ false }

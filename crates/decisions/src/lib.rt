@@ -1,4 +1,6 @@
 // The decisions of a frame that is carried out, but for the two steps of an authentication, which say a block.
+#![tactic(auto)]
+
 ghost use Rattle.std.specs.Prelude.{◌≡◌};
 ghost use Rattle.model.specs.Numbers.{answered, acknowledged};
 ghost use Rattle.model.specs.Frame.{halted};
@@ -9,6 +11,7 @@ use refusals::plain;
 const ACK: u8 = 0xa;
 
 // Number 0 with data: the state stays, and a challenge is dropped.
+#[tactic(auto, unfolding(model::specs::Numbers::answered, refusals::specs::Deciding::plain))]
 pub fn answered(tag: Tag, y: Say) -> Decision
     ensures { result ≡ answered tag y }
 {
@@ -17,6 +20,7 @@ pub fn answered(tag: Tag, y: Say) -> Decision
 }
 
 // Number 0 with ACK and what it stores.
+#[tactic(auto, unfolding(model::specs::Numbers::acknowledged, refusals::specs::Deciding::plain))]
 pub fn acknowledged(tag: Tag, e: Effect) -> Decision
     ensures { result ≡ acknowledged tag e }
 {
@@ -25,6 +29,7 @@ pub fn acknowledged(tag: Tag, e: Effect) -> Decision
 }
 
 // HLTA carried out: silence, and the session ends.
+#[tactic(auto, unfolding(model::specs::Frame::halted, refusals::specs::Deciding::plain))]
 pub fn halted() -> Decision
     ensures { result ≡ halted }
 {

@@ -1,2 +1,4 @@
 // What a frame leaves behind: the only code that stores.
+#![tactic(auto)]
+
 pub mod storing;

@@ -17,6 +17,7 @@ fn store_page(store: &mut [u8], p: u8, q: Quad)
 }
 
 // The pages after an effect.
+#[tactic(auto, unfolding(model::specs::Frame::store_after))]
 pub fn store_after(store: &mut [u8], e: Effect)
     ensures { store.new ≡ store_after store.old e }
 {
@@ -27,6 +28,7 @@ pub fn store_after(store: &mut [u8], e: Effect)
 }
 
 // The counters after an effect; a counter that doesn't exist stores nothing.
+#[tactic(auto, unfolding(model::specs::Frame::counters_after))]
 pub fn counters_after(cs: [u32; 3], e: Effect) -> [u32; 3]
     ensures { result ≡ counters_after cs e }
 {
@@ -44,6 +46,7 @@ pub fn counters_after(cs: [u32; 3], e: Effect) -> [u32; 3]
 }
 
 // The failed-authentication count after an effect.
+#[tactic(auto, unfolding(model::specs::Frame::failed_after))]
 pub fn failed_after(c: u16, e: Effect) -> u16
     ensures { result ≡ failed_after c e }
 {
@@ -54,6 +57,7 @@ pub fn failed_after(c: u16, e: Effect) -> u16
 }
 
 // The record after a decision.
+#[tactic(auto, unfolding(model::specs::Frame::tag_after))]
 pub fn tag_after(tag: Tag, d: Decision) -> Tag
     ensures { result ≡ tag_after tag d }
 {

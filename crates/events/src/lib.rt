@@ -1,4 +1,6 @@
 // What a call hands back, and the two events.
+#![tactic(auto)]
+
 ghost use Rattle.std.specs.Prelude.{◌≡◌};
 ghost use Rattle.model.specs.declared.Barred.TheVariants.{Open};
 ghost use Rattle.model.specs.declared.Reply.TheVariants.{Silence};
@@ -7,7 +9,7 @@ ghost use Rattle.model.specs.Record.{zeros, fleeting, power, select};
 use model::{Barred, Reply, State, Tag};
 
 // What a call hands back: its number, its reply, the rule that stopped a write, and the record that the next call is given.
-#[derive(Drop)]
+#[derive(Clone, Copy)]
 pub struct Answer {
     pub number: u8,
     pub reply: Reply,

@@ -1,4 +1,6 @@
 // Numbers and blocks that stand in a run of bytes, each from byte at on. What lies past the end counts as 0.
+#![tactic(auto)]
+
 ghost use Rattle.std.specs.Prelude.{◌≡◌, ◌+◌, ◌<◌};
 ghost use Rattle.fips197.specs.Cbc.{block_of};
 ghost use Rattle.model.specs.Image.{number_at};

@@ -1,1 +1,3 @@
 // FIPS 197 as definitions and proved laws. There is no code here: the functions that meet them are in the crate aes.
+
+#![tactic(auto)]

@@ -1,1 +1,3 @@
 // No functions: demand 3 for every machine is definitions (specs/) and theorems (proofs/).
+
+#![tactic(auto)]

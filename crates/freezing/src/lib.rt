@@ -1,4 +1,6 @@
 // What the block-lock bits freeze: the lock bits that a WRITE to a lock page can no longer set (document 01, "One-way bits"; 009 8.5.3 and 8.5.4).
+#![tactic(auto)]
+
 ghost use Rattle.std.specs.Prelude.{◌≡◌, List, ◌∷◌, cond, ◌/◌};
 ghost use Rattle.model.specs.declared.Masks.{Masks};
 ghost use Rattle.model.specs.Writing.{freeze_rows, pair_freeze_rows, frozen};
@@ -58,6 +60,7 @@ fn mask_if(t: bool, mask: u8) -> u8
 }
 
 // A row laid over what the rows after it freeze: bit 0 of b is the row's, and the others are theirs.
+#[tactic(auto, unfolding(model::specs::Writing::frozen))]
 fn with_row(row: Masks, b: u8, rest: Masks) -> Masks
     ensures { (rows : List Masks) → rest ≡ frozen rows (b / 2) → result ≡ frozen (row ∷ rows) b }
 {
@@ -78,6 +81,7 @@ fn with_rows(row0: Masks, row1: Masks, row2: Masks, b: u8, rest: Masks) -> Masks
 }
 
 // What the block-lock bits of lock byte 0 freeze.
+#[tactic(auto, unfolding(model::specs::Writing::freeze_rows))]
 pub fn frozen_locks(b: u8) -> Masks
     ensures { result ≡ frozen freeze_rows b }
 {
@@ -90,6 +94,7 @@ pub fn frozen_locks(b: u8) -> Masks
 }
 
 // What the block-lock bits of lock byte 4 freeze.
+#[tactic(auto, unfolding(model::specs::Writing::pair_freeze_rows))]
 pub fn frozen_pair_locks(b: u8) -> Masks
     ensures { result ≡ frozen pair_freeze_rows b }
 {

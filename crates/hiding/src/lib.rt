@@ -1,4 +1,6 @@
 // Bytes as READ and FAST_READ show them: a key's as zero, and the serial number's too while Random ID stands for it.
+#![tactic(auto)]
+
 ghost use Rattle.std.specs.Prelude.{◌≡◌};
 ghost use Rattle.model.specs.Reading.{in_key_pages, hidden, shown_byte};
 
@@ -16,6 +18,7 @@ fn in_key_pages(map: Map, i: usize) -> bool
 }
 
 // Byte i is shown as zero: a key's, or the serial number's while Random ID stands for it.
+#[tactic(auto, unfolding(model::specs::Reading::hidden))]
 fn hidden(map: Map, st: State, s: &[u8], i: usize) -> bool
     ensures { result ≡ hidden map st s.now i }
 {
@@ -24,6 +27,7 @@ fn hidden(map: Map, st: State, s: &[u8], i: usize) -> bool
 }
 
 // Byte i of the memory as it is shown.
+#[tactic(auto, unfolding(model::specs::Reading::shown_byte))]
 pub fn shown_byte(map: Map, st: State, s: &[u8], i: usize) -> u8
     ensures { result ≡ shown_byte map st s.now i }
 {

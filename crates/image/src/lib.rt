@@ -1,4 +1,6 @@
 // Loading and saving an image file (document 01, "Image file"). Nothing is stored before every check has passed.
+#![tactic(auto)]
+
 ghost use Rattle.std.specs.Prelude.{◌≡◌, true, length};
 ghost use Rattle.model.specs.Map.{mf0aes20, store_size};
 ghost use Rattle.model.specs.Image.{image_right, store_of, load_number, load, save_number, save};
@@ -11,13 +13,14 @@ use numbers::{first, number_if};
 use sections::sizes;
 
 // What a load hands back: its number, and the tag, which is the zero record unless the number is 0.
-#[derive(Drop)]
+#[derive(Clone, Copy)]
 pub struct Loading {
     pub number: u8,
     pub tag: Tag,
 }
 
 // The map of this tag, 009 Table 6.
+#[tactic(auto, unfolding(model::specs::Map::mf0aes20))]
 pub fn mf0aes20() -> Map
     ensures { result ≡ mf0aes20 }
 {
@@ -36,6 +39,7 @@ pub fn mf0aes20() -> Map
 }
 
 // 10 comes before 12.
+#[tactic(auto, unfolding(model::specs::Image::load_number))]
 fn load_number(image: &[u8], store: &[u8]) -> u8
     ensures { result ≡ load_number image.now store.now }
 {
@@ -48,6 +52,7 @@ fn load_number(image: &[u8], store: &[u8]) -> u8
 }
 
 // The pages of an image, over the whole store.
+#[tactic(auto, unfolding(model::specs::Image::store_of))]
 fn take_pages(map: Map, image: &[u8], store: &mut [u8])
     requires store_len { length store.old ≡ store_size map }
     requires image_value { image_right map image.now ≡ true }
@@ -75,6 +80,7 @@ pub fn load(image: &[u8], store: &mut [u8]) -> Loading
 }
 
 // A wrong store, a short buffer, or a record that no tag can have.
+#[tactic(auto, unfolding(model::specs::Image::save_number))]
 fn save_number(tag: Tag, store: &[u8], room: usize) -> u8
     ensures { result ≡ save_number tag store.now room }
 {

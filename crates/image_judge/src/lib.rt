@@ -1,4 +1,6 @@
 // Whether a file is an image (document 01, "Image file").
+#![tactic(auto)]
+
 ghost use Rattle.std.specs.Prelude.{◌≡◌, drop};
 ghost use Rattle.model.specs.Image.{check_bytes_right, image_right};
 ghost use Rattle.sections.specs.Sections.{counts_right};
@@ -9,6 +11,7 @@ use model::Map;
 use sections::sizes;
 
 // Each section begins with the count of what it holds.
+#[tactic(auto, unfolding(sections::specs::Sections::counts_right))]
 fn counts_right(map: Map, i: &[u8]) -> bool
     ensures { result ≡ counts_right map i.now }
 {

@@ -1,4 +1,6 @@
 // What an image holds beside its pages (document 01, "Image file").
+#![tactic(auto)]
+
 ghost use Rattle.std.specs.Prelude.{◌≡◌};
 ghost use Rattle.model.specs.Record.{zero_tag};
 ghost use Rattle.model.specs.Image.{tag_of};
@@ -9,6 +11,7 @@ use model::{Map, State, Tag};
 use sections::sizes;
 
 // The three counters.
+#[tactic(auto, unfolding(sections::specs::Sections::counters_of))]
 fn counters_of(map: Map, i: &[u8]) -> [u32; 3]
     ensures { result ≡ counters_of map i.now }
 {
@@ -17,6 +20,7 @@ fn counters_of(map: Map, i: &[u8]) -> [u32; 3]
 }
 
 // The tag of an image, in WAITING.
+#[tactic(auto, unfolding(model::specs::Image::tag_of, sections::specs::Sections::counters_of))]
 pub fn tag_of(map: Map, i: &[u8]) -> Tag
     ensures { result ≡ tag_of map i.now }
 {

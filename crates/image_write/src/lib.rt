@@ -1,4 +1,6 @@
 // The image of a tag, laid over the start of a buffer section by section (document 01, "Image file").
+#![tactic(auto)]
+
 ghost use Rattle.std.specs.Prelude.{◌≡◌, ◌∷◌, ◌≤◌, ◌<◌, length};
 ghost use Rattle.std.proofs.lemmas.List.Edits.{sets};
 ghost use Rattle.model.specs.Map.{store_size};
@@ -19,6 +21,7 @@ fn lay_section(image: &mut [u8], at: usize, count: u8, bytes: &[u8])
 }
 
 // Three counters of three bytes.
+#[tactic(auto, unfolding(sections::specs::Sections::counters_section))]
 fn lay_counters(image: &mut [u8], at: usize, counters: [u32; 3])
     requires { at < length image.old }
     ensures { image.new ≡ sets image.old at (counters_section counters) }

@@ -1,9 +1,11 @@
 // Standard input, in pieces as they come: what is read at once is played before the next reading, and its answers are written.
+#![tactic(auto)]
+
 ghost use Rattle.std.specs.Prelude.{◌≡◌, ◌≤◌, ◌<◌, length};
 
-use libc::STDIN_FILENO;
 use model::Tag;
 use progress::Progress;
+use std::io::{Input, Read};
 use text::lines;
 
 // The end of a line: it is played where it lies, or with what was held of it.
@@ -120,7 +122,8 @@ fn play_last(p: Progress, store: &mut [u8], line: &[u8], out: &mut [u8])
 }
 
 // One reading, and the answers to the lines that it completes. A reading that fails ends the script; what is held of a line is not played then.
-fn read_turn(
+fn read_turn<R: Read>(
+    reader: &mut R,
     p: Progress,
     store: &mut [u8],
     line: &mut [u8],
@@ -135,11 +138,10 @@ fn read_turn(
     ensures at_value_2 { result.at ≡ 0 }
     ensures held_bound_2 { result.held ≤ 127 }
 {
-    let got = libc::read(STDIN_FILENO, chunk);
-    if got < 0 {
-        return progress::moved(p, 0, 0, false);
-    }
-    let n = io::count(got, chunk);
+    let n = match reader.read(chunk) {
+        Ok(n) => n,
+        Err(_) => return progress::moved(p, 0, 0, false),
+    };
     if n == 0 {
         play_last(p, store, line, out);
         return progress::moved(p, 0, 0, false);
@@ -149,14 +151,15 @@ fn read_turn(
 }
 
 // A proved loop has to end, and nothing says that an input does. So it counts its turns down, from a number that no run uses up.
-pub fn play_input(tag: Tag, store: &mut [u8]) {
+pub fn play_input<R: Input>(rt: &R, tag: Tag, store: &mut [u8]) {
+    let mut reader = rt.reader();
     let mut chunk = io::large_buffer();
     let mut out = io::large_buffer();
     let mut line = [0u8; 128];
     let mut p = progress::beginning(tag);
     let mut turns = u64::MAX;
     while turns > 0 && p.on {
-        let next = read_turn(p, store, &mut line, &mut chunk, &mut out);
+        let next = read_turn(&mut reader, p, store, &mut line, &mut chunk, &mut out);
         p = next;
         turns -= 1;
     }

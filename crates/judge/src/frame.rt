@@ -6,6 +6,7 @@ use memory::{record, sizes};
 use model::{Map, Quad, Tag};
 
 // A wrong store, reply buffer or random block, or a record that no tag can have. room is the reply buffer's length.
+#[tactic(auto, unfolding(model::specs::Frame::misfit))]
 pub fn misfit(map: Map, tag: Tag, s: &[u8], random: &[u8], room: usize) -> bool
     ensures { result ≡ misfit map tag s.now random.now room }
 {

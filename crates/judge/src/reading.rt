@@ -8,6 +8,7 @@ use model::{Map, State};
 use numbers::{first, number_if};
 
 // Page p is protected from reading.
+#[tactic(auto, unfolding(model::specs::Reading::read_barred))]
 pub fn read_barred(map: Map, st: State, s: &[u8], p: u8) -> bool
     ensures { result ≡ read_barred map st s.now p }
 {
@@ -17,6 +18,7 @@ pub fn read_barred(map: Map, st: State, s: &[u8], p: u8) -> bool
 }
 
 // READ: of its four pages only the first is judged, since behind the last that may be read it continues at page 00h.
+#[tactic(auto, unfolding(model::specs::Reading::read_number))]
 pub fn read_number(map: Map, st: State, s: &[u8], p: u8) -> u8
     ensures { result ≡ read_number map st s.now p }
 {
@@ -27,6 +29,7 @@ pub fn read_number(map: Map, st: State, s: &[u8], p: u8) -> u8
 }
 
 // FAST_READ of the pages from p to q.
+#[tactic(auto, unfolding(model::specs::Reading::fast_read_number))]
 pub fn fast_read_number(map: Map, st: State, s: &[u8], p: u8, q: u8) -> u8
     ensures { result ≡ fast_read_number map st s.now p q }
 {

@@ -1,4 +1,6 @@
 // Keys and the two messages of a login, 009 8.6.1 to 8.6.3. All enciphering of the tag goes through `enciphered` and `deciphered`.
+#![tactic(auto)]
+
 ghost use Rattle.std.specs.Prelude.{◌≡◌, ◌<◌, length};
 ghost use Rattle.fips197.specs.Cbc.{cbc_encipher};
 ghost use Rattle.cbc.specs.TwoBlocks.{cbc_decipher_two};
@@ -9,6 +11,7 @@ use aes::TwoBlocks;
 use model::{Map, Tag};
 
 // The sixteen bytes from offset i on, last byte first.
+#[tactic(auto, unfolding(model::specs::Authentication::page_key))]
 fn page_key(s: &[u8], i: usize) -> [u8; 16]
     requires { i < 65536 }
     ensures { result ≡ page_key s.now i }
@@ -23,6 +26,7 @@ fn page_key(s: &[u8], i: usize) -> [u8; 16]
 }
 
 // Key number k: DataProtKey and UIDRetrKey from their pages, the originality key from the record.
+#[tactic(auto, unfolding(model::specs::Authentication::key_of))]
 pub fn key_of(map: Map, tag: Tag, s: &[u8], k: u8) -> [u8; 16]
     ensures { result ≡ key_of map tag s.now k }
 {

@@ -1,5 +1,7 @@
 // The places of an image file and of the pages in it, as the functions that loading and saving are proved by give them: a line for each.
 // The scripts in tools/ read this program's output, crates/layout/stdout, and have no other table of places.
+#![tactic(auto)]
+
 mod pages;
 mod places;
 mod report;

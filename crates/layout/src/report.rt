@@ -1,5 +1,6 @@
 // A line of the table: a name, and numbers in decimal, with a space before each.
-use libc::STDOUT_FILENO;
+// Standard output.
+const STDOUT_FILENO: i32 = 1;
 
 fn number(n: usize) {
     io::write_all(STDOUT_FILENO, b" ");

@@ -1,4 +1,6 @@
 // Document 01, "Writing": the rules that stop a WRITE, 009 10.4, 8.5.2 to 8.5.4 and Tables 9, 10, 14 and 15.
+#![tactic(auto)]
+
 ghost use Rattle.std.specs.Prelude.{◌≡◌, cond};
 ghost use Rattle.model.specs.declared.Barred.TheVariants.{Open, OwnLock, PairLock, KeyLock, ConfigLock};
 ghost use Rattle.model.specs.Writing.{page_bars, auth0_bars, random_id_bars, own_lock_bars, pair_lock_bars, key_lock_bars, config_lock_bars};
@@ -11,6 +13,7 @@ use model::{Barred, Map, Quad, State};
 use numbers::{barred_number, first, number_if};
 
 // Pages 02h to 3Bh can be written.
+#[tactic(auto, unfolding(model::specs::Writing::page_bars))]
 pub fn page_bars(map: Map, p: u8) -> bool
     ensures { result ≡ page_bars map p }
 {
@@ -18,6 +21,7 @@ pub fn page_bars(map: Map, p: u8) -> bool
 }
 
 // At or above AUTH0 and not AUTHENTICATED, whatever PROT says.
+#[tactic(auto, unfolding(model::specs::Writing::auth0_bars))]
 pub fn auth0_bars(map: Map, st: State, s: &[u8], p: u8) -> bool
     ensures { result ≡ auth0_bars map st s.now p }
 {
@@ -25,6 +29,7 @@ pub fn auth0_bars(map: Map, st: State, s: &[u8], p: u8) -> bool
 }
 
 // CFG_0 with another Random ID bit, while ACTIVE.
+#[tactic(auto, unfolding(model::specs::Writing::random_id_bars))]
 pub fn random_id_bars(map: Map, st: State, s: &[u8], p: u8, q: Quad) -> bool
     ensures { result ≡ random_id_bars map st s.now p q }
 {
@@ -32,6 +37,7 @@ pub fn random_id_bars(map: Map, st: State, s: &[u8], p: u8, q: Quad) -> bool
 }
 
 // CFG_0 and CFG_1 under LOCK_USR_CFG.
+#[tactic(auto, unfolding(model::specs::Writing::config_lock_bars))]
 pub fn config_lock_bars(map: Map, s: &[u8], p: u8) -> bool
     ensures { result ≡ config_lock_bars map s.now p }
 {
@@ -61,6 +67,7 @@ fn locked(map: Map, s: &[u8], p: u8) -> Barred
 
 // The rule that stops a write of q to page p, the first that applies, likewise. Its number and its place follow from it (`numbers`); a page that can't be
 // written is 5 before any rule applies.
+#[tactic(auto, unfolding(model::specs::Writing::barred))]
 pub fn barred(map: Map, st: State, s: &[u8], p: u8, q: Quad) -> Barred
     ensures { result ≡ barred map st s.now p q }
 {
@@ -71,6 +78,7 @@ pub fn barred(map: Map, st: State, s: &[u8], p: u8, q: Quad) -> Barred
 }
 
 // The number of a WRITE to page p that a rule stops, or none.
+#[tactic(auto, unfolding(model::specs::Writing::write_number))]
 pub fn write_number(map: Map, p: u8, b: Barred) -> u8
     ensures { result ≡ write_number map p b }
 {

@@ -1,4 +1,6 @@
 // Part 2 of AUTHENTICATE, 009 8.6.1, 8.6.5 and 10.10: the reader's proof, and what a login does.
+#![tactic(auto)]
+
 ghost use Rattle.std.specs.Prelude.{◌≡◌, false, ◌≤◌, ◌<◌, length};
 ghost use Rattle.model.specs.declared.Command.TheVariants.{Proof};
 ghost use Rattle.model.specs.Authentication.{key_of, limit_reached, lowered, rotated, logged_in};

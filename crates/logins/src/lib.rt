@@ -1,4 +1,6 @@
 // Whole logins with the tag, in the texts of `playing::play`. tools/logins.py works them out again from the standards.
+#![tactic(auto)]
+
 use playing::play;
 
 // The image is that of the cases in `model`, with Random ID on and AUTH0 38h (page 29h), PROT and AUTH_LIM 0028h (page 2Ah), and 20 failed attempts.

@@ -1,4 +1,6 @@
 // Numbers laid over a run of bytes low byte first, as image files and the C form's record hold them.
+#![tactic(auto)]
+
 ghost use Rattle.std.specs.Prelude.{◌≡◌, ◌≤◌, length};
 ghost use Rattle.std.proofs.lemmas.List.Edits.{sets};
 ghost use Rattle.model.specs.Counters.{low_first};

@@ -62,6 +62,7 @@ pub fn key_number(st: State) -> u8
 }
 
 // The state exists, and so does its key number; only CHALLENGED has one.
+#[tactic(auto, unfolding(model::specs::Record::exists))]
 pub fn exists(st: State) -> bool
     ensures { result ≡ exists st }
 {
@@ -69,6 +70,7 @@ pub fn exists(st: State) -> bool
 }
 
 // A record that a tag can have.
+#[tactic(auto, unfolding(model::specs::Record::possible))]
 pub fn possible(tag: Tag) -> bool
     ensures { result ≡ possible tag }
 {

@@ -5,6 +5,7 @@ ghost use Rattle.model.specs.Settings.{bit_set, random_id_on, auth0, read_protec
 use model::Map;
 
 // Bit k of a number of 16 bits is 1; above bit 15 all are 0.
+#[tactic(auto, unfolding(bits::specs::Bits::bit_of))]
 pub fn bit_set16(k: u8, x: u16) -> bool
     ensures { result ≡ bit_set k x }
 {
@@ -19,6 +20,7 @@ pub fn bit_set(k: u8, b: u8) -> bool
 }
 
 // RID_ACT, Table 8: Random ID is on.
+#[tactic(auto, unfolding(model::specs::Settings::random_id_on))]
 pub fn random_id_on(map: Map, s: &[u8]) -> bool
     ensures { result ≡ random_id_on map s.now }
 {
@@ -26,6 +28,7 @@ pub fn random_id_on(map: Map, s: &[u8]) -> bool
 }
 
 // AUTH0, Table 9: seven bits, the first page that needs authentication.
+#[tactic(auto, unfolding(model::specs::Settings::auth0))]
 pub fn auth0(map: Map, s: &[u8]) -> u8
     ensures { result ≡ auth0 map s.now }
 {
@@ -33,6 +36,7 @@ pub fn auth0(map: Map, s: &[u8]) -> u8
 }
 
 // PROT, Table 10: reading needs authentication too.
+#[tactic(auto, unfolding(model::specs::Settings::read_protected))]
 pub fn read_protected(map: Map, s: &[u8]) -> bool
     ensures { result ≡ read_protected map s.now }
 {
@@ -40,6 +44,7 @@ pub fn read_protected(map: Map, s: &[u8]) -> bool
 }
 
 // LOCK_USR_CFG, Table 10: the configuration pages are locked.
+#[tactic(auto, unfolding(model::specs::Settings::config_locked))]
 pub fn config_locked(map: Map, s: &[u8]) -> bool
     ensures { result ≡ config_locked map s.now }
 {
@@ -47,6 +52,7 @@ pub fn config_locked(map: Map, s: &[u8]) -> bool
 }
 
 // CNT_INC_EN, Table 10: counter 2 may be raised without authentication.
+#[tactic(auto, unfolding(model::specs::Settings::incr_open))]
 pub fn incr_open(map: Map, s: &[u8]) -> bool
     ensures { result ≡ incr_open map s.now }
 {
@@ -54,6 +60,7 @@ pub fn incr_open(map: Map, s: &[u8]) -> bool
 }
 
 // CNT_RD_EN, Table 10: counter 2 may be read without authentication.
+#[tactic(auto, unfolding(model::specs::Settings::read_open))]
 pub fn read_open(map: Map, s: &[u8]) -> bool
     ensures { result ≡ read_open map s.now }
 {
@@ -61,6 +68,7 @@ pub fn read_open(map: Map, s: &[u8]) -> bool
 }
 
 // AUTH_LIM, Tables 12 and 13: ten bits, the failed-authentication limit, 0 for none.
+#[tactic(auto, unfolding(model::specs::Settings::auth_limit))]
 pub fn auth_limit(map: Map, s: &[u8]) -> u16
     ensures { result ≡ auth_limit map s.now }
 {
@@ -71,6 +79,7 @@ pub fn auth_limit(map: Map, s: &[u8]) -> u16
 }
 
 // Bit k of LOCK_KEYS, Table 14: bit 7 locks UIDRetrKey, bit 6 DataProtKey, and bit 5 LOCK_KEYS itself.
+#[tactic(auto, unfolding(model::specs::Settings::key_lock_bit))]
 pub fn key_lock_bit(k: u8, map: Map, s: &[u8]) -> bool
     ensures { result ≡ key_lock_bit k map s.now }
 {

@@ -1,4 +1,6 @@
 // MixColumns and its inverse on the columns of the state, for `rounds`: FIPS 197 sections 4.2.1, 5.1.3 and 5.3.3.
+#![tactic(auto)]
+
 ghost use Rattle.std.specs.Prelude.{◌≡◌};
 ghost use Rattle.fips197.specs.Field.{xtime};
 ghost use Rattle.fips197.specs.State.{mix_columns, inv_mix_columns};
@@ -9,6 +11,7 @@ use columns::state::Columns;
 use columns::words::Word;
 
 // Multiplication by x in the field, FIPS 197 section 4.2.1.
+#[tactic(auto, unfolding(fips197::specs::Field::xtime))]
 pub fn times_x(b: u8) -> u8
     ensures { result ≡ xtime b }
 {
@@ -16,6 +19,7 @@ pub fn times_x(b: u8) -> u8
 }
 
 // A column times {03}x^3 + {01}x^2 + {01}x + {02}, FIPS 197 section 5.1.3.
+#[tactic(auto, unfolding(fips197::specs::Field::product, fips197::specs::Field::product_of))]
 pub fn mix_word(u: Word) -> Word
     ensures { bytes_of result ≡ mix_word (bytes_of u) }
 {
@@ -32,7 +36,7 @@ pub fn mix_word(u: Word) -> Word
 }
 
 // The multiples of a byte that the inverse of MixColumns is made of.
-#[derive(Drop)]
+#[derive(Clone, Copy)]
 pub struct Multiples {
     pub by_9: u8,
     pub by_11: u8,
@@ -40,6 +44,7 @@ pub struct Multiples {
     pub by_14: u8,
 }
 
+#[tactic(auto, unfolding(fips197::specs::Field::product, fips197::specs::Field::product_of))]
 fn multiples_of(b: u8) -> Multiples
     ensures { multiples_of result ≡ multiples_by b }
 {
@@ -70,6 +75,7 @@ pub fn inv_mix_word(u: Word) -> Word
     }
 }
 
+#[tactic(auto, unfolding(fips197::specs::State::mix_columns))]
 pub fn mix_columns(s: Columns) -> Columns
     ensures { columns_of result ≡ mix_columns (columns_of s) }
 {
@@ -81,6 +87,7 @@ pub fn mix_columns(s: Columns) -> Columns
     }
 }
 
+#[tactic(auto, unfolding(fips197::specs::State::inv_mix_columns))]
 pub fn inv_mix_columns(s: Columns) -> Columns
     ensures { columns_of result ≡ inv_mix_columns (columns_of s) }
 {

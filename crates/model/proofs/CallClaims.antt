@@ -34,7 +34,7 @@ use Rattle.model.proofs.Demand1.{refusal-ends}
 use Rattle.model.proofs.Carried.{first-zero, number_if-zero, carried}
 use Rattle.model.proofs.ProofExact.{both_true}
 pub use Rattle.model.proofs.ProofExact.{proof-exact}
-pub use Rattle.model.proofs.Hidden.{random-id-hides, keys-hidden}
+pub use Rattle.model.proofs.Hiding.{random-id-hides, keys-hidden}
 
 -- ---- READ_CNT
 

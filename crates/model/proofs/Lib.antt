@@ -14,7 +14,7 @@ pub mod SerialStays
 pub mod Logins
 pub mod Image
 pub mod Claims
-pub mod Hidden
+pub mod Hiding
 pub mod ProofExact
 pub mod CallClaims
 pub mod Stages

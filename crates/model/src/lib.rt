@@ -1,8 +1,9 @@
 // The types of the tag, which its definition in specs/ and the code that meets it share. The definition of each call, and what is proved of it, is in
 // specs/; there is no code here.
+#![tactic(auto)]
 
 // The tag's record (document 01, "Stored and fleeting"): passed in and handed back by value. The pages lie in a lent store beside it.
-#[derive(Drop)]
+#[derive(Clone, Copy)]
 pub struct Tag {
     // stored: three counters, the failed-authentication count and the originality key, byte 0 first
     pub counters: [u32; 3],
@@ -14,7 +15,7 @@ pub struct Tag {
 }
 
 // The state. CHALLENGED keeps the number of the key that was asked for; Unknown is a state that doesn't exist, which a record can hold.
-#[derive(Drop)]
+#[derive(Clone, Copy)]
 pub enum State {
     Waiting,
     Active,
@@ -25,7 +26,7 @@ pub enum State {
 }
 
 // A reply: silence, a nibble, or a number of bytes that stand at the start of the reply buffer.
-#[derive(Drop)]
+#[derive(Clone, Copy)]
 pub enum Reply {
     Silence,
     Nibble(u8),
@@ -33,7 +34,7 @@ pub enum Reply {
 }
 
 // The memory map (009 Table 6): the number of pages, and the page of each use.
-#[derive(Drop)]
+#[derive(Clone, Copy)]
 pub struct Map {
     pub pages: u8,
     pub locks: u8,
@@ -48,7 +49,7 @@ pub struct Map {
 }
 
 // The commands of the base.
-#[derive(Drop)]
+#[derive(Clone, Copy)]
 pub enum Command {
     Read,
     FastRead,
@@ -61,14 +62,14 @@ pub enum Command {
 }
 
 // What a code byte tells: a command with the length of its payload, the frame without its CRC_A; or no command.
-#[derive(Drop)]
+#[derive(Clone, Copy)]
 pub enum Told {
     Known(Command, u8),
     Nothing,
 }
 
 // The rule that stops a write, in document 02's order; Open where none does.
-#[derive(Drop)]
+#[derive(Clone, Copy)]
 pub enum Barred {
     Open,
     Auth0,
@@ -80,7 +81,7 @@ pub enum Barred {
 }
 
 // Four bytes of a page, byte 0 first.
-#[derive(Drop)]
+#[derive(Clone, Copy)]
 pub struct Quad {
     pub a: u8,
     pub b: u8,
@@ -89,14 +90,14 @@ pub struct Quad {
 }
 
 // A row of freeze masks: the bits that one block-lock bit freezes in the first and in the second lock byte.
-#[derive(Drop)]
+#[derive(Clone, Copy)]
 pub struct Masks {
     pub first: u8,
     pub second: u8,
 }
 
 // What a frame stores: nothing, one page, one counter or the failed count. No frame stores two of them.
-#[derive(Drop)]
+#[derive(Clone, Copy)]
 pub enum Effect {
     Keep,
     Page(u8, Quad),
@@ -105,7 +106,7 @@ pub enum Effect {
 }
 
 // What a frame says, before the bytes are read out: the four pages of READ from one on, the pages from one to another, a counter, or a byte and a block.
-#[derive(Drop)]
+#[derive(Clone, Copy)]
 pub enum Say {
     Silence,
     Nibble(u8),
@@ -117,7 +118,7 @@ pub enum Say {
 
 // What a frame comes to: its number, the rule that stopped a write, what it stores, what it says with the block for `Say::Block`, and the fleeting part
 // it leaves.
-#[derive(Drop)]
+#[derive(Clone, Copy)]
 pub struct Decision {
     pub number: u8,
     pub reason: Barred,

@@ -1,5 +1,7 @@
 // Checks give numbers, and the first number that is not 0 is the answer (document 01, "The numbers a call answers with"). The rule that stops a write gives
 // its number, and its place in document 02's order (E6).
+#![tactic(auto)]
+
 ghost use Rattle.std.specs.Prelude.{◌≡◌, ◌≤◌};
 ghost use Rattle.model.specs.Numbers.{number_if, first, nibble_of};
 ghost use Rattle.model.specs.Writing.{barred_number, barred_place};
@@ -7,6 +9,7 @@ ghost use Rattle.model.specs.Writing.{barred_number, barred_place};
 use model::Barred;
 
 // n where the check t applies, 0 where it doesn't.
+#[tactic(auto, unfolding(model::specs::Numbers::number_if))]
 pub fn number_if(t: bool, n: u8) -> u8
     ensures { result ≡ number_if t n }
 {
@@ -14,6 +17,7 @@ pub fn number_if(t: bool, n: u8) -> u8
 }
 
 // a, or b where a is 0.
+#[tactic(auto, unfolding(model::specs::Numbers::first))]
 pub fn first(a: u8, b: u8) -> u8
     ensures { result ≡ first a b }
 {
@@ -21,6 +25,7 @@ pub fn first(a: u8, b: u8) -> u8
 }
 
 // The NAK nibble of a number, 009 Table 21: damaged frame 1h, a count past its end 4h, every other refusal 0h.
+#[tactic(auto, unfolding(model::specs::Numbers::nibble_of))]
 pub fn nibble_of(n: u8) -> u8
     ensures { result ≡ nibble_of n }
 {

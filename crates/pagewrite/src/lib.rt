@@ -1,4 +1,6 @@
 // What a WRITE stores: the four bytes of a page after it (document 01, "Writing" and "One-way bits"; 009 8.5.3 to 8.5.5 and Table 15).
+#![tactic(auto)]
+
 ghost use Rattle.std.specs.Prelude.{◌≡◌};
 ghost use Rattle.model.specs.Writing.{merged, keep_of, lock_opened, pair_lock_opened, opened_of, written};
 
@@ -7,6 +9,7 @@ use model::{Map, Masks, Quad};
 use octets::byte_of;
 
 // A byte after a write: the old bits under keep, and the new bits under opened.
+#[tactic(auto, unfolding(model::specs::Writing::merged))]
 pub fn merged(keep: u8, opened: u8, old: u8, new: u8) -> u8
     ensures { result ≡ merged keep opened old new }
 {
@@ -14,6 +17,7 @@ pub fn merged(keep: u8, opened: u8, old: u8, new: u8) -> u8
 }
 
 // The one-way bits of each byte of page p: the lock pages and OTP whole, LOCK_USR_CFG in CFG_1, three bits of LOCK_KEYS (Table 15).
+#[tactic(auto, unfolding(model::specs::Writing::keep_of))]
 pub fn keep_of(map: Map, p: u8) -> Quad
     ensures { result ≡ keep_of map p }
 {
@@ -74,6 +78,7 @@ fn pair_lock_opened(f: Masks) -> Quad
 }
 
 // The bits of each data byte that count in a write to page p, by the block-lock bits as they are before the write.
+#[tactic(auto, unfolding(model::specs::Writing::opened_of))]
 pub fn opened_of(map: Map, s: &[u8], p: u8) -> Quad
     ensures { result ≡ opened_of map s.now p }
 {
@@ -92,6 +97,7 @@ pub fn opened_of(map: Map, s: &[u8], p: u8) -> Quad
 }
 
 // The four bytes of page p after a write of q.
+#[tactic(auto, unfolding(model::specs::Writing::written))]
 pub fn written(map: Map, s: &[u8], p: u8, q: Quad) -> Quad
     ensures { result ≡ written map s.now p q }
 {

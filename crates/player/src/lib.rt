@@ -1,4 +1,6 @@
 // A line of a script, played.
+#![tactic(auto)]
+
 ghost use Rattle.std.specs.Prelude.{◌≡◌, true, false, [], ◌-◌, ◌≤◌, ◌<◌, length, take};
 ghost use Rattle.crc.specs.CrcA.{with_crc};
 ghost use Rattle.model.specs.Writing.{barred_place};
@@ -15,7 +17,7 @@ use script::line;
 use script::line::Line;
 
 // What a line leaves: the record, how long its text is, and whether it is a bad line.
-#[derive(Drop)]
+#[derive(Clone, Copy)]
 pub struct Turn {
     pub tag: Tag,
     pub end: usize,
@@ -132,6 +134,7 @@ pub fn next_count(count: u64) -> u64
 }
 
 // A line played: its text is laid over the start of a buffer. A bad line has none, and leaves all as it was.
+#[tactic(auto, unfolding(crate::specs::Play::turn, model::specs::Calls::step))]
 pub fn play(tag: Tag, store: &mut [u8], line: &[u8], count: u64, out: &mut [u8]) -> Turn
     ensures tag_value { result.tag ≡ (turn (record { tag = tag; store = store.old }) count line.now).box.tag }
     ensures bad_value { result.bad ≡ (turn (record { tag = tag; store = store.old }) count line.now).bad }

@@ -1,2 +1,4 @@
 // For the program `vectors`: sessions with a tag from a text.
+#![tactic(auto)]
+
 pub mod play;

@@ -7,8 +7,8 @@ ghost use Rattle.std.specs.Prelude.{◌≤◌, length};
 
 use comparing::{answer, file};
 use events::Answer;
-use libc::STDOUT_FILENO;
 use model::{Reply, Tag};
+use reports::report::STDOUT_FILENO;
 use reports::{digits, parts};
 use text::lines::mark_from;
 

@@ -1,12 +1,16 @@
 // How far a script is played, and what a line does to it. Text is gathered in a buffer of 65,536 bytes.
+#![tactic(auto)]
+
 ghost use Rattle.std.specs.Prelude.{◌≡◌, ◌≤◌, ◌<◌, length};
 ghost use Rattle.player.specs.Play.{next_count, turn};
 
-use libc::STDOUT_FILENO;
 use model::Tag;
 
+// Where the answers are written: standard output.
+const STDOUT_FILENO: i32 = 1;
+
 // The record; the lines played so far; the bytes held of a line that is not yet whole; the bytes of text gathered; whether to go on.
-#[derive(Drop)]
+#[derive(Clone, Copy)]
 pub struct Progress {
     pub tag: Tag,
     pub count: u64,

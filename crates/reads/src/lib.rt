@@ -1,4 +1,6 @@
 // The commands that read: each judges its own numbers, and says what it comes to where none applies.
+#![tactic(auto)]
+
 ghost use Rattle.std.specs.Prelude.{◌≡◌};
 ghost use Rattle.model.specs.declared.Command.TheVariants.{Read, FastRead, ReadCnt};
 ghost use Rattle.model.specs.Frame.{commanded};
@@ -7,6 +9,7 @@ use judge::reading;
 use model::{Barred, Decision, Effect, Map, Say, Tag};
 
 // READ, 009 10.2.
+#[tactic(auto, unfolding(model::specs::Frame::command_number, model::specs::Frame::command_done, model::specs::Frame::command_reason))]
 pub fn read(map: Map, tag: Tag, s: &[u8], f: &[u8], random: &[u8]) -> Decision
     ensures { result ≡ commanded Read map tag s.now f.now random.now }
 {
@@ -20,6 +23,7 @@ pub fn read(map: Map, tag: Tag, s: &[u8], f: &[u8], random: &[u8]) -> Decision
 }
 
 // FAST_READ, 009 10.3.
+#[tactic(auto, unfolding(model::specs::Frame::command_number, model::specs::Frame::command_done, model::specs::Frame::command_reason))]
 pub fn fast_read(map: Map, tag: Tag, s: &[u8], f: &[u8], random: &[u8]) -> Decision
     ensures { result ≡ commanded FastRead map tag s.now f.now random.now }
 {
@@ -34,6 +38,7 @@ pub fn fast_read(map: Map, tag: Tag, s: &[u8], f: &[u8], random: &[u8]) -> Decis
 }
 
 // READ_CNT, 009 10.5.
+#[tactic(auto, unfolding(model::specs::Frame::command_number, model::specs::Frame::command_done, model::specs::Frame::command_reason))]
 pub fn read_cnt(map: Map, tag: Tag, s: &[u8], f: &[u8], random: &[u8]) -> Decision
     ensures { result ≡ commanded ReadCnt map tag s.now f.now random.now }
 {

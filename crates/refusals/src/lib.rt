@@ -1,4 +1,6 @@
 // The decisions of a frame that is not carried out, and the shape that most decisions share.
+#![tactic(auto)]
+
 ghost use Rattle.std.specs.Prelude.{◌≡◌};
 ghost use Rattle.model.specs.Numbers.{kept, refused};
 ghost use Rattle.refusals.specs.Deciding.{plain};
@@ -6,6 +8,7 @@ ghost use Rattle.refusals.specs.Deciding.{plain};
 use model::{Barred, Decision, Effect, Say, State, Tag};
 
 // A decision that says no block and leaves no challenge.
+#[tactic(auto, unfolding(crate::specs::Deciding::plain))]
 pub fn plain(number: u8, reason: Barred, effect: Effect, say: Say, state: State) -> Decision
     ensures { result ≡ plain number reason effect say state }
 {
@@ -23,6 +26,7 @@ pub fn plain(number: u8, reason: Barred, effect: Effect, say: Say, state: State)
 }
 
 // Numbers 1 and 10: silence, and the record as it came, its challenge too.
+#[tactic(auto, unfolding(model::specs::Numbers::kept))]
 pub fn kept(n: u8, tag: Tag) -> Decision
     ensures { result ≡ kept n tag }
 {
@@ -41,6 +45,7 @@ pub fn kept(n: u8, tag: Tag) -> Decision
 }
 
 // Every other number but 0: a NAK, the rule that stopped a write, and the session ends.
+#[tactic(auto, unfolding(model::specs::Numbers::refused, crate::specs::Deciding::plain))]
 pub fn refused(n: u8, b: Barred, e: Effect) -> Decision
     ensures { result ≡ refused n b e }
 {

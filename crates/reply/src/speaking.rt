@@ -38,6 +38,7 @@ fn lay_block(b: u8, block: [u8; 16], reply: &mut [u8]) -> usize
 }
 
 // The bytes of a reply without their CRC_A; returns how many they are. Silence and a nibble have none.
+#[tactic(auto, unfolding(crate::specs::Speaking::data_of, model::specs::Reading::fast_range))]
 fn lay_data(map: Map, tag: Tag, s: &[u8], say: Say, block: [u8; 16], reply: &mut [u8]) -> usize
     requires { said_size say ≤ length reply.old }
     ensures { Laid reply.old reply.new result (data_of map tag s.now block say) }
@@ -53,6 +54,7 @@ fn lay_data(map: Map, tag: Tag, s: &[u8], say: Say, block: [u8; 16], reply: &mut
 }
 
 // The reply. The pages are those before the frame stores; only the bytes that are said are written.
+#[tactic(auto, unfolding(model::specs::Frame::said_of, crate::specs::Speaking::data_of))]
 pub fn speak(map: Map, tag: Tag, s: &[u8], say: Say, block: [u8; 16], reply: &mut [u8]) -> Reply
     requires { said_size say ≤ length reply.old }
     ensures value { result ≡ reply_of (said_of map tag s.now block say) }

@@ -1,5 +1,7 @@
 // A line of the report.
-use libc::STDOUT_FILENO;
+
+// Where a report is written: standard output.
+pub const STDOUT_FILENO: i32 = 1;
 
 fn print_byte(byte: u8) {
     io::print_hex(STDOUT_FILENO, byte as u64, 2);

@@ -1,4 +1,6 @@
 // Where the window of READ goes on, 009 10.2: behind the last page that may be read it continues at page 00h.
+#![tactic(auto)]
+
 ghost use Rattle.std.specs.Prelude.{◌≡◌};
 ghost use Rattle.model.specs.Reading.{last_readable, page_after};
 

@@ -39,7 +39,7 @@ use Rattle.model.proofs.Claims.{damage-forgotten}
 use Rattle.events.specs.declared.Answer.{Answer}
 use Rattle.tag.proofs.power.Reads as power-call
 use Rattle.tag.proofs.select.Reads as select-call
-use Rattle.runs.proofs.Made.{Slice, Loading, box_of, Saving, FrameMet, Made, powered, selected, got, InTurn, log_of, last, calls_of}
+use Rattle.runs.proofs.Made.{Slice, MutSlice, Loading, box_of, Saving, FrameMet, Made, powered, selected, got, InTurn, log_of, last, calls_of}
 use Rattle.runs.proofs.Steps.{loaded-box, outcome_of, outcome-frame, got-step, log-run, last-run}
 
 -- ---- demand 3
@@ -133,7 +133,7 @@ events-keep b r = (
 )
 
 -- a frame, any record, store, frame, random bytes and reply buffer, that met the `ensures` of `frame`
-module _ (κs : Lfts 4) (tag : Tag) (store f random reply : Slice) (r : Answer) (store' reply' : Slice)
+module _ (κs : Lfts 4) (tag : Tag) (store : MutSlice) (f random : Slice) (reply : MutSlice) (r : Answer) (store' reply' : MutSlice)
     (met : FrameMet κs tag store f random reply r store' reply') where
   abbrev o : Outcome
   o = frame tag store.now f.now random.now (length reply.now)

@@ -17,6 +17,7 @@ use Prim.Native.Nat.{ℕ}
 use lib.ListN.{length}
 use contract.Lifetimes.{Lfts}
 use denote.Ref.{Bor}
+use denote.MutBor.{MutBor}
 use Rattle.forget.specs.Machine.{Given, Entry, entry}
 use Rattle.model.specs.declared.Tag.{Tag}
 use Rattle.model.specs.Writing.{barred_place}
@@ -33,12 +34,16 @@ use Rattle.runs.specs.Heard.{heard}
 abbrev pub Slice : Type 0
 Slice = Bor (List ℕ)
 
+-- a slice that a call may write
+abbrev pub MutSlice : Type 0
+MutSlice = MutBor (List ℕ)
+
 pub record Loading : Type 0 where
   pub κs : Lfts 2
   pub file : Slice
-  pub store : Slice
+  pub store : MutSlice
   pub result : loading.Loading
-  pub store' : Slice
+  pub store' : MutSlice
   pub met : load-call.Learnt κs (file, (store, tt)) result (file, (store', tt))
 
 -- the record and the store that a loading leaves
@@ -50,20 +55,20 @@ pub record Saving : Type 0 where
   pub κs : Lfts 2
   pub tag : Tag
   pub store : Slice
-  pub file : Slice
+  pub file : MutSlice
   pub number : ℕ
-  pub file' : Slice
+  pub file' : MutSlice
   pub met : save-call.Learnt κs (tag, (store, (file, tt))) number (tag, (store, (file', tt)))
 
 -- the `ensures` of `frame`, of its arguments, its result and the two buffers at exit
-abbrev pub FrameMet : Lfts 4 → Tag → (store f random reply : Slice) → Answer → (store' reply' : Slice) → Type 0
+abbrev pub FrameMet : Lfts 4 → Tag → (store : MutSlice) (f random : Slice) (reply : MutSlice) → Answer → (store' reply' : MutSlice) → Type 0
 FrameMet κs tag store f random reply r store' reply' =
     frame-call.Learnt κs (tag, (store, (f, (random, (reply, tt))))) r (tag, (store', (f, (random, (reply', tt)))))
 
 pub data Made : Type 0 where
   powered : (tag : Tag) (r : Answer) → power-call.Learnt tt (tag, tt) r (tag, tt) → Made
   selected : (tag : Tag) (r : Answer) → select-call.Learnt tt (tag, tt) r (tag, tt) → Made
-  framed : (κs : Lfts 4) (tag : Tag) (store f random reply : Slice) (r : Answer) (store' reply' : Slice)
+  framed : (κs : Lfts 4) (tag : Tag) (store : MutSlice) (f random : Slice) (reply : MutSlice) (r : Answer) (store' reply' : MutSlice)
       → FrameMet κs tag store f random reply r store' reply' → Made
 
 abbrev pub call_of : Made → Call

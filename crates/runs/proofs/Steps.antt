@@ -29,7 +29,7 @@ use Rattle.model.specs.Calls.{Box, Call, power, select, Report, step, tag_machin
 use Rattle.events.specs.declared.Answer.{Answer}
 use Rattle.runs.specs.Heard.{heard}
 use Rattle.runs.proofs.Heard.{said_fits, heard-said}
-use Rattle.runs.proofs.Made.{Slice, Loading, box_of, Made, powered, selected, framed, call_of, report_of, got, Handed, InTurn, log_of, last, calls_of}
+use Rattle.runs.proofs.Made.{Slice, MutSlice, Loading, box_of, Made, powered, selected, framed, call_of, report_of, got, Handed, InTurn, log_of, last, calls_of}
 
 pub loaded-box : (l : Loading) → box_of l ≡ loaded_box l.file.now l.store.now
 loaded-box l = λ i. record { tag = l.met.1.0 i; store = l.met.1.1 i }
@@ -85,14 +85,17 @@ last-run b (m ∷ ms) h =
 abbrev slice : List ℕ → Slice
 slice xs = record { ref_ptr = (0, 0); now = xs }
 
+abbrev mut_slice : List ℕ → MutSlice
+mut_slice xs = record { ref_ptr = (0, 0); ghost_name = 0; now = xs }
+
 pub can-be-made : (κs : Lfts 4) (b : Box) (c : Call) → (m : Made) × Handed b m × (call_of m ≡ c)
 can-be-made κs b power = (powered b.tag (record { number = 0; reply = Silence; reason = Open; tag = event.power b.tag }) refl, refl, refl)
 can-be-made κs b select = (selected b.tag (record { number = 0; reply = Silence; reason = Open; tag = event.select b.tag }) refl, refl, refl)
 can-be-made κs b (call.frame f random room) =
     let buffer : List ℕ = replicate room 0 in
     let o = frame b.tag b.store f random (length buffer) in (
-      framed κs b.tag (slice b.store) (slice f) (slice random) (slice buffer)
-          (record { number = o.number; reply = reply_of o.said; reason = o.reason; tag = o.tag }) (slice o.store) (slice (laid_over buffer o.said))
+      framed κs b.tag (mut_slice b.store) (slice f) (slice random) (mut_slice buffer)
+          (record { number = o.number; reply = reply_of o.said; reason = o.reason; tag = o.tag }) (mut_slice o.store) (mut_slice (laid_over buffer o.said))
           (refl, (refl, (refl, (refl, (refl, refl))))),
       (refl, refl),
       ap (λ (n : ℕ). call.frame f random n) (length-replicate room 0),
@@ -111,9 +114,9 @@ load-can-be-made κs i s =
       record {
         κs = κs;
         file = slice i;
-        store = slice s;
+        store = mut_slice s;
         result = record { number = l.number; tag = l.tag };
-        store' = slice l.store;
+        store' = mut_slice l.store;
         met = (refl, (refl, refl));
       },
       refl,

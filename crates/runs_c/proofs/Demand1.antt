@@ -44,7 +44,7 @@ use Rattle.model.proofs.Demand1.{number-in-table, refusal-ends, keeps-all, load-
 use Rattle.model.proofs.Reasons.{first-rule-told, no-other-reason, place-tells-rule}
 use Rattle.runs.specs.Heard.{heard}
 use Rattle.runs.proofs.Heard.{said_fits, heard-said}
-use Rattle.runs.proofs.Made.{Slice}
+use Rattle.runs.proofs.Made.{Slice, MutSlice}
 use Rattle.c_record.specs.Record.{record_size, state_byte, record_of, head_of, bytes_of, keeps, handed_back}
 use Rattle.c_record.specs.Claims.{Holds}
 use Rattle.c_record.proofs.Laws.{event-bytes, ended-bytes, bytes-hold, decode-after-encode, handed-kept, handed-written}
@@ -132,7 +132,7 @@ Kept b st n b' =
 
 abbrev pub EventsKeep : Type 0
 EventsKeep =
-    (κs : Lfts 1) (bytes : Slice) (n : ℕ) (bytes' : Slice) → Bytes bytes.now
+    (κs : Lfts 1) (bytes : MutSlice) (n : ℕ) (bytes' : MutSlice) → Bytes bytes.now
     → (power-call.Learnt κs (bytes, tt) n (bytes', tt) → Kept bytes.now Waiting n bytes'.now)
     × (select-call.Learnt κs (bytes, tt) n (bytes', tt) → Kept bytes.now Active n bytes'.now)
 
@@ -153,7 +153,7 @@ events-keep κs bytes n bytes' ok = (
 )
 
 -- a frame, any 48 bytes, store, frame, random bytes and reply buffer, that met the `ensures` of `kz_frame`
-module _ (κs : Lfts 5) (bytes store f random reply : Slice) (a : ℕ) (bytes' store' reply' : Slice)
+module _ (κs : Lfts 5) (bytes store : MutSlice) (f random : Slice) (reply : MutSlice) (a : ℕ) (bytes' store' reply' : MutSlice)
     (met : FrameMet κs bytes store f random reply a bytes' store' reply') where
   -- what came back, as an outcome of the definition
   abbrev back : Outcome

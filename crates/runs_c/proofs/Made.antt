@@ -22,7 +22,7 @@ use contract.Lifetimes.{Lfts}
 use Rattle.forget.specs.Machine.{Given, Entry, entry}
 use Rattle.model.specs.Calls.{Box, Call, power, select, frame, Report, quiet, tag_machine}
 use Rattle.runs.specs.Heard.{heard}
-use Rattle.runs.proofs.Made.{Slice}
+use Rattle.runs.proofs.Made.{Slice, MutSlice}
 use Rattle.c_record.specs.Record.{record_of}
 use Rattle.c_answer.specs.Answer.{number_in, reason_in, reply_in}
 use Rattle.tag_c.proofs.kz_power.Reads as power-call
@@ -40,12 +40,12 @@ held b = record { tag = record_of b.bytes; store = b.store }
 
 pub record Loading : Type 0 where
   pub κs : Lfts 3
-  pub bytes : Slice
-  pub store : Slice
+  pub bytes : MutSlice
+  pub store : MutSlice
   pub file : Slice
   pub number : ℕ
-  pub bytes' : Slice
-  pub store' : Slice
+  pub bytes' : MutSlice
+  pub store' : MutSlice
   pub met : load-call.Learnt κs (bytes, (store, (file, tt))) number (bytes', (store', (file, tt)))
 
 -- the buffers that a loading leaves
@@ -56,20 +56,20 @@ pub record Saving : Type 0 where
   pub κs : Lfts 3
   pub bytes : Slice
   pub store : Slice
-  pub file : Slice
+  pub file : MutSlice
   pub number : ℕ
-  pub file' : Slice
+  pub file' : MutSlice
   pub met : save-call.Learnt κs (bytes, (store, (file, tt))) number (bytes, (store, (file', tt)))
 
 -- the `ensures` of `kz_frame`, of its arguments, its answer and the buffers at exit
-abbrev pub FrameMet : Lfts 5 → (bytes store f random reply : Slice) → ℕ → (bytes' store' reply' : Slice) → Type 0
+abbrev pub FrameMet : Lfts 5 → (bytes store : MutSlice) (f random : Slice) (reply : MutSlice) → ℕ → (bytes' store' reply' : MutSlice) → Type 0
 FrameMet κs bytes store f random reply a bytes' store' reply' =
     frame-call.Learnt κs (bytes, (store, (f, (random, (reply, tt))))) a (bytes', (store', (f, (random, (reply', tt)))))
 
 pub data Made : Type 0 where
-  powered : (κs : Lfts 1) (bytes : Slice) (n : ℕ) (bytes' : Slice) → power-call.Learnt κs (bytes, tt) n (bytes', tt) → Made
-  selected : (κs : Lfts 1) (bytes : Slice) (n : ℕ) (bytes' : Slice) → select-call.Learnt κs (bytes, tt) n (bytes', tt) → Made
-  framed : (κs : Lfts 5) (bytes store f random reply : Slice) (a : ℕ) (bytes' store' reply' : Slice)
+  powered : (κs : Lfts 1) (bytes : MutSlice) (n : ℕ) (bytes' : MutSlice) → power-call.Learnt κs (bytes, tt) n (bytes', tt) → Made
+  selected : (κs : Lfts 1) (bytes : MutSlice) (n : ℕ) (bytes' : MutSlice) → select-call.Learnt κs (bytes, tt) n (bytes', tt) → Made
+  framed : (κs : Lfts 5) (bytes store : MutSlice) (f random : Slice) (reply : MutSlice) (a : ℕ) (bytes' store' reply' : MutSlice)
       → FrameMet κs bytes store f random reply a bytes' store' reply' → Made
 
 abbrev pub call_of : Made → Call

@@ -40,7 +40,7 @@ use Rattle.model.proofs.Claims.{loaded-valid}
 use Rattle.model.proofs.Image.{load-zero}
 use Rattle.model.proofs.Demand1.{keeps-all}
 use Rattle.runs.specs.Heard.{heard}
-use Rattle.runs.proofs.Made.{Slice}
+use Rattle.runs.proofs.Made.{Slice, MutSlice}
 use Rattle.runs.proofs.Heard.{said_fits, heard-said}
 use Rattle.c_record.specs.Record.{record_size, record_of, bytes_of, keeps, handed_back}
 use Rattle.c_record.specs.Claims.{Holds}
@@ -261,13 +261,17 @@ module _ (l : Loading) (zero : l.number ≡ 0) where
 abbrev slice : List ℕ → Slice
 slice xs = record { ref_ptr = (0, 0); now = xs }
 
+abbrev mut_slice : List ℕ → MutSlice
+mut_slice xs = record { ref_ptr = (0, 0); ghost_name = 0; now = xs }
+
 pub can-be-made : (κ : Lfts 1) (κs : Lfts 5) (b : Buffers) (c : Call) → (m : Made) × Handed b m × (call_of m ≡ c)
-can-be-made κ κs b power = let v = c-form.power b.bytes in (powered κ (slice b.bytes) v.number (slice v.bytes) (refl, refl), refl, refl)
-can-be-made κ κs b select = let v = c-form.select b.bytes in (selected κ (slice b.bytes) v.number (slice v.bytes) (refl, refl), refl, refl)
+can-be-made κ κs b power = let v = c-form.power b.bytes in (powered κ (mut_slice b.bytes) v.number (mut_slice v.bytes) (refl, refl), refl, refl)
+can-be-made κ κs b select = let v = c-form.select b.bytes in (selected κ (mut_slice b.bytes) v.number (mut_slice v.bytes) (refl, refl), refl, refl)
 can-be-made κ κs b (call.frame f random room) =
     let buffer : List ℕ = replicate room 0 in
     let v = c-form.frame b.bytes b.store f random buffer in (
-      framed κs (slice b.bytes) (slice b.store) (slice f) (slice random) (slice buffer) v.answer (slice v.bytes) (slice v.store) (slice v.reply)
+      framed κs (mut_slice b.bytes) (mut_slice b.store) (slice f) (slice random) (mut_slice buffer) v.answer (mut_slice v.bytes) (mut_slice v.store)
+          (mut_slice v.reply)
           (refl, (refl, (refl, refl))),
       (refl, refl),
       ap (λ (n : ℕ). call.frame f random n) (length-replicate room 0),
@@ -285,12 +289,12 @@ load-can-be-made κs b s i =
     let v = c-form.load b s i in (
       record {
         κs = κs;
-        bytes = slice b;
-        store = slice s;
+        bytes = mut_slice b;
+        store = mut_slice s;
         file = slice i;
         number = v.number;
-        bytes' = slice v.bytes;
-        store' = slice v.store;
+        bytes' = mut_slice v.bytes;
+        store' = mut_slice v.store;
         met = (refl, (refl, refl));
       },
       refl,

@@ -1,4 +1,6 @@
 // The key expansion, FIPS 197 section 5.2, word by word.
+#![tactic(auto)]
+
 ghost use Rattle.std.specs.Prelude.{◌≡◌, [], ◌∷◌, ◌≤◌, ◌<◌, take};
 ghost use Rattle.fips197.specs.SBox.{s_box_table};
 ghost use Rattle.fips197.specs.KeyExpansion.{rot_word, xor_word, power_of_x, next_word, key_expansion};
@@ -10,6 +12,7 @@ use columns::words::Word;
 // The powers of x that the round constants start with.
 const POWERS_OF_X: [u8; 10] = [1, 2, 4, 8, 16, 32, 64, 128, 27, 54];
 
+#[tactic(auto, unfolding(fips197::specs::KeyExpansion::power_of_x, fips197::specs::Field::xtime))]
 fn power_of_x(n: usize) -> u8
     requires { n < 10 }
     ensures { result ≡ power_of_x n }
@@ -42,6 +45,7 @@ fn rotated(sbox: &[u8; 256], u: Word, constant: u8) -> Word
 }
 
 // Word i of the schedule, from the words before it.
+#[tactic(auto, unfolding(fips197::specs::KeyExpansion::next_word, fips197::specs::SBox::s_box))]
 fn next_word(sbox: &[u8; 256], w: &[u8; 176], i: usize) -> Word
     requires sbox_value { sbox.now ≡ s_box_table }
     requires le_i { (4 ≤ i) × (i < 44) }
@@ -70,6 +74,7 @@ fn begun(key: [u8; 16]) -> [u8; 176]
     w
 }
 
+#[tactic(auto, unfolding(fips197::specs::KeyExpansion::expand, fips197::specs::KeyExpansion::key_expansion))]
 pub fn expand(sbox: &[u8; 256], key: [u8; 16]) -> [u8; 176]
     requires { sbox.now ≡ s_box_table }
     ensures { result ≡ key_expansion key }

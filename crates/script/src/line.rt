@@ -6,7 +6,7 @@ ghost use Rattle.script.specs.Line.{digits_right, only, frame_right, line_of, by
 use text::digits::digit;
 
 // A power-on, a selection, a frame of so many bytes, or none of these.
-#[derive(Drop)]
+#[derive(Clone, Copy)]
 pub enum Line {
     Power,
     Select,
@@ -15,6 +15,7 @@ pub enum Line {
 }
 
 // From byte 2 on every byte is a digit.
+#[tactic(auto, unfolding(crate::specs::Line::digits_right))]
 fn digits_right(line: &[u8]) -> bool
     ensures { result ≡ digits_right line.now }
 {
@@ -28,6 +29,7 @@ fn digits_right(line: &[u8]) -> bool
 }
 
 // The line is the byte b alone.
+#[tactic(auto, unfolding(crate::specs::Line::only))]
 fn only(line: &[u8], b: u8) -> bool
     ensures { result ≡ only line.now b }
 {
@@ -35,6 +37,7 @@ fn only(line: &[u8], b: u8) -> bool
 }
 
 // `F`, a space, and the digits of 1 to 62 bytes.
+#[tactic(auto, unfolding(crate::specs::Line::frame_right))]
 fn frame_right(line: &[u8]) -> bool
     ensures { result ≡ frame_right line.now }
 {
@@ -44,6 +47,7 @@ fn frame_right(line: &[u8]) -> bool
     long & head & digits_right(line)
 }
 
+#[tactic(auto, unfolding(crate::specs::Line::line_of))]
 pub fn line_of(line: &[u8]) -> Line
     ensures { result ≡ line_of line.now }
 {
@@ -60,6 +64,7 @@ pub fn line_of(line: &[u8]) -> Line
 }
 
 // Byte i of the frame that a line asks for.
+#[tactic(auto, unfolding(crate::specs::Line::byte_at))]
 fn byte_at(line: &[u8], i: u8) -> u8
     ensures { result ≡ byte_at line.now i }
 {
@@ -68,6 +73,7 @@ fn byte_at(line: &[u8], i: u8) -> u8
 }
 
 // The first n bytes of that frame, laid over the start of a buffer.
+#[tactic(auto, unfolding(text::specs::Listed::listed))]
 pub fn lay_frame(line: &[u8], n: u8, frame: &mut [u8])
     ensures { frame.new ≡ sets frame.old 0 (frame_bytes line.now n) }
 {

@@ -1,4 +1,6 @@
 // Pages as READ and FAST_READ show them, laid over a reply.
+#![tactic(auto)]
+
 pub mod window;
 
 ghost use Rattle.std.specs.Prelude.{◌≡◌, ◌≤◌};

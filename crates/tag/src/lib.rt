@@ -1,4 +1,6 @@
 // The calls of the tag: power, select, frame, load and save. None asks anything of its caller; each is its definition of the same name in `model`.
+#![tactic(auto)]
+
 ghost use Rattle.std.specs.Prelude.{◌≡◌, length};
 ghost use Rattle.model.specs.declared.Barred.TheVariants.{Open};
 ghost use Rattle.model.specs.declared.Reply.TheVariants.{Silence};

@@ -1,5 +1,7 @@
 // The calls of the tag in the C form: numbers and byte buffers, the record as 48 bytes (docs/C-FORM.md). None asks anything of its caller but that
 // no pointer is null and the buffers of one call lie apart. A record buffer of another length is answered 10, and 10 changes no buffer.
+#![tactic(auto)]
+
 ghost use Rattle.std.specs.Prelude.{◌≡◌};
 ghost use Rattle.tag_c.specs.Calls.{power, select, frame, load, save};
 

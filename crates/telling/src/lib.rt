@@ -1,4 +1,6 @@
 // Document 01: "The command is told by its first byte, and each code has one length." The codes and lengths are 009 Table 20's.
+#![tactic(auto)]
+
 ghost use Rattle.std.specs.Prelude.{◌≡◌};
 ghost use Rattle.model.specs.Telling.{damaged, code_of, told, allowed, told_number};
 
@@ -7,6 +9,7 @@ use model::{Command, State, Told};
 use numbers::{first, number_if};
 
 // Under 3 or over 64 bytes, or the CRC_A in the last two bytes, low byte first, is not that of the bytes before them.
+#[tactic(auto, unfolding(model::specs::Telling::damaged))]
 pub fn damaged(f: &[u8]) -> bool
     ensures { result ≡ damaged f.now }
 {
@@ -23,6 +26,7 @@ pub fn damaged(f: &[u8]) -> bool
 }
 
 // What a code byte tells: a command, and the length of its payload, the frame without CRC_A.
+#[tactic(auto, unfolding(model::specs::Telling::told))]
 pub fn told(code: u8) -> Told
     ensures { result ≡ told code }
 {
@@ -63,6 +67,7 @@ pub fn code_of(c: Command) -> u8
 }
 
 // While CHALLENGED only the second part of AUTHENTICATE is allowed; otherwise it is not.
+#[tactic(auto, unfolding(model::specs::Telling::allowed))]
 pub fn allowed(st: State, c: Command) -> bool
     ensures { result ≡ allowed st c }
 {
@@ -75,6 +80,7 @@ pub fn allowed(st: State, c: Command) -> bool
 }
 
 // 3 for a code that is unknown or not allowed now, 4 for a frame of another length n.
+#[tactic(auto, unfolding(model::specs::Telling::told_number))]
 pub fn told_number(t: Told, st: State, n: usize) -> u8
     ensures { result ≡ told_number t st n }
 {

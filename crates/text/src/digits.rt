@@ -3,6 +3,7 @@ ghost use Rattle.std.specs.Prelude.{◌≡◌};
 ghost use Rattle.text.specs.Digits.{digit_of};
 
 // The value of a digit, and 16 for every other byte.
+#[tactic(auto, unfolding(crate::specs::Digits::digit_of))]
 pub fn digit(b: u8) -> u8
     ensures { result ≡ digit_of b }
 {

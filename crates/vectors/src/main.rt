@@ -1,4 +1,6 @@
 // Outside vectors through the public functions of `aes`, `crc` and `tag`: a line for each, with its name and whether the value came out.
+#![tactic(auto)]
+
 use standards::{cipher, exchange, modes, trailer};
 
 fn main() {

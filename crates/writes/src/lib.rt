@@ -1,4 +1,6 @@
 // WRITE: it judges its own numbers, and says what it comes to where none applies.
+#![tactic(auto)]
+
 ghost use Rattle.std.specs.Prelude.{◌≡◌};
 ghost use Rattle.model.specs.declared.Command.TheVariants.{Write};
 ghost use Rattle.model.specs.Frame.{commanded};
@@ -7,6 +9,7 @@ use judge::frame::data_of;
 use model::{Decision, Effect, Map, Tag};
 
 // WRITE, 009 10.4. The rule that stops it gives the number, and is passed up.
+#[tactic(auto, unfolding(model::specs::Frame::command_reason, model::specs::Frame::command_number, model::specs::Frame::command_done))]
 pub fn write(map: Map, tag: Tag, s: &[u8], f: &[u8], random: &[u8]) -> Decision
     ensures { result ≡ commanded Write map tag s.now f.now random.now }
 {

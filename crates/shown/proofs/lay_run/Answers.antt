@@ -1,0 +1,28 @@
+-- `shown::lay_run` meets its contract. The loop's invariant: the first i bytes are laid. The measure is what is left of them.
+-- Assumes nothing.
+use mathlib.Core.Path.{refl, ap, ◌∙◌}
+use Prim.Native.Nat.{◌+◌, ◌-◌}
+use native.Mathlib.Omega.{arith}
+use lib.ListN.{set}
+use lib.Seq.{sets}
+use Rattle.shown.proofs.Shown.{run_step, run-all}
+use Rattle.shown.proofs.lay_run.Goals as goal
+
+pub loop-i-init : goal.loop-i-init
+loop-i-init c = (omega arith, refl)
+
+pub loop-i-preserved : goal.loop-i-preserved
+loop-i-preserved c =
+    let put = c in
+    let l = put.loop-i in
+    let a = put.args in (
+      omega arith,
+      put.put.ensures ∙ (λ j. set (l.invariant.1 j) (a.at + l.i) (put.shown_byte-b.ensures j))
+          ∙ run_step a.map a.st a.s.now a.reply.now a.at a.first a.n l.i (omega arith),
+    )
+
+pub returns : goal.returns
+returns c =
+    let l = c.loop-i in
+    let a = c.args in
+    l.invariant.1 ∙ ap (sets a.reply.now a.at) (run-all a.map a.st a.s.now a.first a.n l.i (omega arith))
