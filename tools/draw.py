@@ -58,7 +58,8 @@ def read_crates():
     with open(os.path.join(tagimage.ROOT, "crates.txt"), encoding="utf-8") as f:
         for words in (row.split("#", 1)[0].split(":") for row in f):
             if len(words) == 2:
-                uses[words[0].strip()] = words[1].split()
+                # a static library has the word behind its name
+                uses[words[0].split()[0]] = words[1].split()
     return {name: [d for d in deps if d in uses] for name, deps in uses.items()}
 
 

@@ -4,7 +4,7 @@
     tools/words.py FOLDER            a folder of samples/: plays its script.txt on its tag.image, and compares with its expected.txt
     tools/words.py IMAGE SCRIPT      any image and script
 
-The program is target/bin/bench, which 'rt check bench' makes; the variable BENCH names another one. The exit status is 1 if an answer is not the expected one.
+The program is target/bin/bench, which 'make bench' makes; the variable BENCH names another one. The exit status is 1 if an answer is not the expected one.
 """
 
 import os
@@ -100,7 +100,7 @@ def played(image, script):
     try:
         done = subprocess.run(program + [image], input=script, stdout=subprocess.PIPE, check=False)
     except OSError as error:
-        sys.exit("%s cannot be run: %s. 'rt check bench' makes it." % (program[0], error.strerror))
+        sys.exit("%s cannot be run: %s. 'make bench' makes it." % (program[0], error.strerror))
     if done.returncode:
         sys.exit("%s ended with status %d" % (program[0], done.returncode))
     return done.stdout.decode("ascii", "replace")

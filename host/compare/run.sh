@@ -13,7 +13,7 @@ else
     host/library.sh || { echo '0 passed, 1 failed'; exit 1; }
     library='-L native=target/staticlib -l static=tag_c'
 fi
-[ -x target/bin/bench ] || rt check bench >"$out/bench.log" 2>&1 || { cat "$out/bench.log"; echo '0 passed, 1 failed'; exit 1; }
+host/program.sh bench || { echo '0 passed, 1 failed'; exit 1; }
 rustc -O --edition 2021 -D warnings --crate-type rlib --crate-name rust_tag host/rust_tag/src/lib.rs -o "$out/librust_tag.rlib"
 # the words of $library are arguments of their own
 rustc -O --edition 2021 -D warnings --extern rust_tag="$out/librust_tag.rlib" $library -o "$out/compare" host/compare/main.rs

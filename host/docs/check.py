@@ -1,11 +1,12 @@
 #!/usr/bin/env python3
-"""Compares two tables of the documents with the tree.
+"""Compares two tables of the documents with the tree, and the exports for C with the calls that they export.
 
     host/docs/check.py    says each difference; the last line is 'N passed, M failed', and the exit status 0 only if nothing failed
 
 The must-fail table of docs/CLAIMS.md names exactly the edits crates/*/must-fail/*.edit. Its first column is 'crate/edit', and ', edit' for each further edit
 of the same crate. The table of docs/ARCHITECTURE.md has a row for each crate of crates.txt and no other; its column Uses has the crates of this
-repository that crates.txt gives for it, in that order. Libraries of the kit do not count. Python 3, no library.
+repository that crates.txt gives for it, in that order. Libraries of the kit do not count. Each function of crates/kazdumera has the parameters, the
+result and the clauses of the function of its name in crates/tag_c, and hands its parameters on to it in their order. Python 3, no library.
 """
 
 import glob
@@ -72,7 +73,8 @@ def crates():
     uses = {}
     for words in (line.split("#", 1)[0].split(":") for line in lines_of("crates.txt")):
         if len(words) == 2:
-            uses[words[0].strip()] = words[1].split()
+            # a static library has the word behind its name
+            uses[words[0].split()[0]] = words[1].split()
     return {name: [other for other in others if other in uses] for name, others in uses.items()}
 
 
@@ -99,12 +101,32 @@ def folders():
     return ["crates.txt lacks %s" % name for name in sorted(names - known)] + ["crates/%s is not there" % name for name in sorted(known - names)]
 
 
+# ---- exports
+
+def functions(crate):
+    """Each public function of the crate's lib.rt: its parameters, its result and clauses, and its body, in single spaces."""
+    text = "\n".join(lines_of("crates", crate, "src", "lib.rt"))
+    found = re.findall(r'^pub (?:extern "C" )?fn (\w+)\((.*?)\)(.*?)^\{(.*?)^\}', text, re.M | re.S)
+    return {name: tuple(" ".join(part.split()).strip(", ") for part in parts) for name, *parts in found}
+
+
+def exports():
+    calls, exported, wrong = functions("tag_c"), functions("kazdumera"), []
+    for name, (parameters, promise, body) in exported.items():
+        if calls.get(name, ("", "", ""))[:2] != (parameters, promise):
+            wrong.append("`%s` of crates/kazdumera has other parameters or clauses than crates/tag_c" % name)
+        if body != "tag_c::%s(%s)" % (name, ", ".join(re.findall(r"(\w+):", parameters))):
+            wrong.append("`%s` of crates/kazdumera is not that call alone" % name)
+    return wrong + ["crates/kazdumera does not export `%s`" % name for name in sorted(set(calls) - set(exported))]
+
+
 # ---- the count
 
 TESTS = [
     ("the must-fail table of docs/CLAIMS.md and crates/*/must-fail", edits),
     ("the table of docs/ARCHITECTURE.md and crates.txt", architecture),
     ("crates.txt and the folders of crates/", folders),
+    ("the exports of crates/kazdumera and the calls of crates/tag_c", exports),
 ]
 
 

@@ -1,5 +1,6 @@
 // The bench program: an image by name, lines from standard input, and an answer for each (document 01, "Image file and bench program").
 #![tactic(auto)]
+
 ghost use Rattle.io.specs.Counts.{IsPrefixLen};
 
 mod file;

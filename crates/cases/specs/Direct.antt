@@ -267,10 +267,10 @@ save_record =
 
 unfoldable pub direct : List Direct
 direct =
-    state_rows ++ nothing_wrong ++ store_of239 ++ store_of241 ++ reply_of241 ++ random_of15 ++ random_of17 ++ counter0_above ++ counter1_above ++
-    counter2_above ++ count_of1024 ++ unknown_state ++ unknown_key ++ loaded ++ image_length ++ pages_count ++ counters_count ++ failed_count ++
-    key_count ++ image_of1024 ++ check_byte0 ++ check_byte1 ++ serial_bytes ++ zero_serial ++ load_store ++ saved ++ saved_states ++ save_buffer ++
-    save_store ++ save_record
+    state_rows ++ nothing_wrong ++ store_of239 ++ store_of241 ++ reply_of241 ++ random_of15 ++ random_of17 ++ counter0_above ++
+    counter1_above ++ counter2_above ++ count_of1024 ++ unknown_state ++ unknown_key ++ loaded ++ image_length ++ pages_count ++
+    counters_count ++ failed_count ++ key_count ++ image_of1024 ++ check_byte0 ++ check_byte1 ++ serial_bytes ++ zero_serial ++
+    load_store ++ saved ++ saved_states ++ save_buffer ++ save_store ++ save_record
 
 abbrev pub DirectRight : Type 0
 DirectRight = T (all_direct_right direct)

@@ -207,5 +207,5 @@ halt_other = record {
 
 unfoldable pub frame_cases : List Case
 frame_cases =
-    waiting_from_loading ∷ two_bytes ∷ longest_frame ∷ too_long_frame ∷ wrong_crc ∷ crc_before_code ∷ unknown_code ∷ codes_not_in_base ∷ proof_in_active ∷
-    read_of_three ∷ code_alone ∷ byte_too_few ∷ byte_too_many ∷ halt ∷ halt_other ∷ []
+    waiting_from_loading ∷ two_bytes ∷ longest_frame ∷ too_long_frame ∷ wrong_crc ∷ crc_before_code ∷ unknown_code ∷ codes_not_in_base ∷
+    proof_in_active ∷ read_of_three ∷ code_alone ∷ byte_too_few ∷ byte_too_many ∷ halt ∷ halt_other ∷ []

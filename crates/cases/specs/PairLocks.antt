@@ -271,6 +271,6 @@ reserved_lock_nothing = record {
 
 unfoldable pub pair_lock_cases : List Case
 pair_lock_cases =
-    pair_locks_set ∷ pair_locks_all ∷ pair_reserved_kept ∷ pair_locks_stay ∷ pair_locks_again ∷ pair_block_bits ∷ pair_block_bit0 ∷ pair_block_bit1 ∷
-    pair_block_bit2 ∷ pair_block_bit3 ∷ pair_block_bit4 ∷ pair_block_bit5 ∷ pair_frozen_kept ∷ pair_lock_holds ∷ pair_lock10 ∷ pair_lock_1e ∷ pair_lock20 ∷
-    pair_lock26 ∷ pair_lock_each ∷ pair_byte2_only ∷ pair_byte3_only ∷ reserved_lock_nothing ∷ []
+    pair_locks_set ∷ pair_locks_all ∷ pair_reserved_kept ∷ pair_locks_stay ∷ pair_locks_again ∷ pair_block_bits ∷ pair_block_bit0 ∷
+    pair_block_bit1 ∷ pair_block_bit2 ∷ pair_block_bit3 ∷ pair_block_bit4 ∷ pair_block_bit5 ∷ pair_frozen_kept ∷ pair_lock_holds ∷
+    pair_lock10 ∷ pair_lock_1e ∷ pair_lock20 ∷ pair_lock26 ∷ pair_lock_each ∷ pair_byte2_only ∷ pair_byte3_only ∷ reserved_lock_nothing ∷ []

@@ -422,7 +422,8 @@ key_pages_prot = record {
 
 unfoldable pub reading_cases : List Case
 reading_cases =
-    read_serial ∷ read_past_end ∷ read_wraps ∷ read_wraps_at_auth0 ∷ read_wraps_at03 ∷ read_wraps_twice ∷ read_one_page ∷ read_no_page ∷ read_wraps_no_prot ∷
-    read_wraps_random_id ∷ read_wraps_random_id_auth0 ∷ read_wraps_keys ∷ fast_read_past_end ∷ fast_read_all ∷ reserved_byte ∷ random_id ∷
-    random_id_fast_read ∷ other_bits_no_random_id ∷ key_pages ∷ read_across_auth0 ∷ fast_read_across_auth0 ∷ prot_off ∷ other_bits_no_prot ∷ auth0_last_page ∷
-    auth0_past_end ∷ auth0_high_bit ∷ auth0_high_bit_low ∷ range_before_prot ∷ key_pages_prot ∷ []
+    read_serial ∷ read_past_end ∷ read_wraps ∷ read_wraps_at_auth0 ∷ read_wraps_at03 ∷ read_wraps_twice ∷ read_one_page ∷ read_no_page ∷
+    read_wraps_no_prot ∷ read_wraps_random_id ∷ read_wraps_random_id_auth0 ∷ read_wraps_keys ∷ fast_read_past_end ∷ fast_read_all ∷
+    reserved_byte ∷ random_id ∷ random_id_fast_read ∷ other_bits_no_random_id ∷ key_pages ∷ read_across_auth0 ∷ fast_read_across_auth0 ∷
+    prot_off ∷ other_bits_no_prot ∷ auth0_last_page ∷ auth0_past_end ∷ auth0_high_bit ∷ auth0_high_bit_low ∷ range_before_prot ∷
+    key_pages_prot ∷ []

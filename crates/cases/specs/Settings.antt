@@ -402,8 +402,8 @@ no_reason = record {
 
 unfoldable pub setting_cases : List Case
 setting_cases =
-    write_past_end ∷ auth0_zero ∷ auth0_with_prot ∷ auth0_before_locks ∷ auth0_last_write ∷ auth0_above ∷ auth0_keys ∷ auth0_holds ∷ config_as_sent ∷
-    config_cleared ∷ plain_cleared ∷ reserved_pages ∷ data_prot_key_locked ∷ uid_retr_key_locked ∷ key_locks_blocked ∷ other_bits_lock_no_key ∷
-    key_locks_together ∷ key_locks_stay ∷ config_locked ∷ config_lock_set ∷ other_bits_no_config_lock ∷ random_id_switched_on ∷ random_id_switched_off ∷
-    random_id_kept ∷ random_id_kept_off ∷ other_bits_switch_nothing ∷ random_id_locked ∷ auth0_before_random_id ∷ auth0_before_both ∷ lock_reasons ∷
-    no_reason ∷ []
+    write_past_end ∷ auth0_zero ∷ auth0_with_prot ∷ auth0_before_locks ∷ auth0_last_write ∷ auth0_above ∷ auth0_keys ∷ auth0_holds ∷
+    config_as_sent ∷ config_cleared ∷ plain_cleared ∷ reserved_pages ∷ data_prot_key_locked ∷ uid_retr_key_locked ∷ key_locks_blocked ∷
+    other_bits_lock_no_key ∷ key_locks_together ∷ key_locks_stay ∷ config_locked ∷ config_lock_set ∷ other_bits_no_config_lock ∷
+    random_id_switched_on ∷ random_id_switched_off ∷ random_id_kept ∷ random_id_kept_off ∷ other_bits_switch_nothing ∷ random_id_locked ∷
+    auth0_before_random_id ∷ auth0_before_both ∷ lock_reasons ∷ no_reason ∷ []

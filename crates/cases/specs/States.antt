@@ -357,8 +357,9 @@ traceable_config_locked = begun Traceable zeros record {
 
 unfoldable pub state_rows : List Direct
 state_rows =
-    challenged_halt ∷ challenged_part1 ∷ challenged_unknown ∷ challenged_other_length ∷ long_proof ∷ proof_alone ∷ limit_at_part2 ∷ limit_false_proof ∷
-    power_drops ∷ select_drops ∷ power_unknown ∷ select_unknown ∷ challenge_dropped ∷ challenge_dropped_refused ∷ reason_once ∷ traceable_proof ∷
-    authenticated_proof ∷ traceable_halt ∷ authenticated_halt ∷ authenticated_opens ∷ authenticated_wraps ∷ authenticated_locked ∷
-    authenticated_lock_reason ∷ authenticated_random_id ∷ authenticated_config_locked ∷ traceable_read ∷ traceable_wraps ∷ traceable_write ∷
-    traceable_read_cnt ∷ traceable_incr_cnt ∷ traceable_counter2 ∷ traceable_random_id ∷ traceable_random_id_auth0 ∷ traceable_config_locked ∷ []
+    challenged_halt ∷ challenged_part1 ∷ challenged_unknown ∷ challenged_other_length ∷ long_proof ∷ proof_alone ∷ limit_at_part2 ∷
+    limit_false_proof ∷ power_drops ∷ select_drops ∷ power_unknown ∷ select_unknown ∷ challenge_dropped ∷ challenge_dropped_refused ∷
+    reason_once ∷ traceable_proof ∷ authenticated_proof ∷ traceable_halt ∷ authenticated_halt ∷ authenticated_opens ∷ authenticated_wraps ∷
+    authenticated_locked ∷ authenticated_lock_reason ∷ authenticated_random_id ∷ authenticated_config_locked ∷ traceable_read ∷
+    traceable_wraps ∷ traceable_write ∷ traceable_read_cnt ∷ traceable_incr_cnt ∷ traceable_counter2 ∷ traceable_random_id ∷
+    traceable_random_id_auth0 ∷ traceable_config_locked ∷ []

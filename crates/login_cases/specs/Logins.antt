@@ -214,8 +214,8 @@ short_proof = record {
 
 unfoldable pub login_cases : List Case
 login_cases =
-    table17 ∷ data_prot_key ∷ uid_retr_key ∷ false_proof ∷ read_after_login ∷ garbled_proof ∷ count_at_limit ∷ originality_key ∷ key_number3 ∷
-    key_number_before_limit ∷ limit_each_key ∷ read_while_challenged ∷ short_proof ∷ []
+    table17 ∷ data_prot_key ∷ uid_retr_key ∷ false_proof ∷ read_after_login ∷ garbled_proof ∷ count_at_limit ∷ originality_key ∷
+    key_number3 ∷ key_number_before_limit ∷ limit_each_key ∷ read_while_challenged ∷ short_proof ∷ []
 
 abbrev pub LoginsRight : Type 0
 LoginsRight = T (all_right login_cases)

@@ -1,4 +1,4 @@
--- The claims of specs/CallClaims.antt, each under its name in lower case; three of them are proved in ProofExact.antt and Hidden.antt.
+-- The claims of specs/CallClaims.antt, each under its name in lower case; three of them are proved in ProofExact.antt and Hiding.antt.
 --
 --   counter-known        READ_CNT is carried out only for a counter that there is
 --   counter-bounded      such a record's three counters are within their bound

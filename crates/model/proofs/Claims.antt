@@ -92,5 +92,5 @@ saved-at-any-time i s h e list fit =
     let b = loaded_box i s in
     let after = end tag_machine b list in
     let same = check-alike after.store b.store (λ k low. serial-stays i s h e list fit k (omega arith)) in
-    save-then-load after.tag after.store
+    λ buffer other. save-then-load after.tag after.store buffer other
     (valid-well-formed after (valid-end b (loaded-valid i s h e) list fit) (same ∙ (loaded-well-formed i s h e).check))

@@ -22,7 +22,6 @@ use Rattle.model.specs.declared.Command.TheVariants.{Read, FastRead, Write, Read
 use Rattle.model.specs.declared.Effect.TheVariants.{Keep, Failed}
 use Rattle.model.specs.Map.{mf0aes20}
 use Rattle.model.specs.Settings.{auth_limit}
-use Rattle.model.specs.Record as record'
 use Rattle.model.specs.Record.{counter}
 use Rattle.model.specs.Numbers.{answered, acknowledged}
 use Rattle.model.specs.Telling.{code_of}

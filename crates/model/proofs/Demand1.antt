@@ -17,7 +17,6 @@ use Rattle.model.specs.declared.Effect.{Effect}
 use Rattle.model.specs.declared.Effect.TheVariants.{Keep, Failed}
 use Rattle.model.specs.Map.{mf0aes20, store_size}
 use Rattle.model.specs.Settings.{auth_limit}
-use Rattle.model.specs.Record as record'
 use Rattle.model.specs.Record.{possible}
 use Rattle.model.specs.Numbers.{number_if, first, kept, refused}
 use Rattle.model.specs.Authentication.{raised}

@@ -363,7 +363,7 @@ saved-first tag s buffer size room n =
     rw (save-done tag s buffer n) (first-bytes buffer (image_of mf0aes20 tag s) (image_size mf0aes20) size room)
 
 pub save-then-load : SaveThenLoad
-save-then-load tag s w buffer other room size =
+save-then-load tag s buffer other w room size =
     let i = image_of mf0aes20 tag s in
     let holds = image_holds mf0aes20 tag s w.size w.three w.bounded w.key.sixteen (omega (arith, sizes.0, w.size)) w.check in
     let n = save-zero tag s buffer w.size room w.bounded in

@@ -8,7 +8,7 @@
 use mathlib.Core.Path.{◌≡◌, refl, sym, subst, subst₂, ap}
 use mathlib.Core.List.{List, [], ◌∷◌}
 use mathlib.Core.Bool.{true, false, true≢false}
-use Prim.Native.Nat.{ℕ, zero, suc, ◌-◌}
+use Prim.Native.Nat.{ℕ, zero, suc}
 use lib.Dec.{eqb}
 use lib.ListN.{get_or}
 use Rattle.forget.specs.Machine.{Every, log, end}
@@ -18,7 +18,6 @@ use Rattle.model.specs.declared.State.TheVariants.{Waiting, Active, Traceable, A
 use Rattle.model.specs.declared.Command.{Command}
 use Rattle.model.specs.declared.Command.TheVariants.{Read, FastRead, Write, ReadCnt, IncrCnt, Authenticate, Proof, Halt}
 use Rattle.model.specs.Map.{mf0aes20}
-use Rattle.model.specs.Record as record'
 use Rattle.model.specs.Record.{is_waiting, key_number}
 use Rattle.model.specs.Numbers.{answered, acknowledged}
 use Rattle.model.specs.Telling.{code_of, allowed}

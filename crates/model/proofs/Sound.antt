@@ -33,7 +33,6 @@ use Rattle.model.specs.declared.Barred.{Barred}
 use Rattle.model.specs.declared.Effect.TheVariants.{Keep, Failed}
 use Rattle.model.specs.Map.{mf0aes20, reply_size, byte_of}
 use Rattle.model.specs.Settings.{auth_limit}
-use Rattle.model.specs.Record as record'
 use Rattle.model.specs.Record.{zeros, exists, key_number, counter, highest_counter, highest_failed, possible}
 use Rattle.model.specs.Numbers.{kept, refused, answered, acknowledged}
 use Rattle.model.specs.Writing.{merged, keep_of, opened_of, written}

@@ -7,9 +7,8 @@
 --     ImageOfLoaded        the image of what a right image of bytes holds is that image, for every map
 --     ImageHolds           the image of a tag's record and store with right check bytes is right and holds them, for every map
 --     LoadThenSave         a loaded tag is saved as the image it was loaded from
---     LoadsAgain tag s     the tag, saved and loaded, has all its stored memory again
---     SaveThenLoad         that holds of a well-formed tag
---     SavedAtAnyTime       and of every tag that calls from a loading left
+--     SaveThenLoad         a well-formed tag, saved and loaded, has all its stored memory again
+--     SavedAtAnyTime       and so has every tag that calls from a loading left
 --
 -- proofs/Image.antt proves each, proofs/Claims.antt the last. Assumes nothing.
 use Rattle.std.specs.Prelude.{◌≡◌, List, true, ℕ, ◌≤◌, length, take}
@@ -62,16 +61,19 @@ LoadThenSave =
     (i s buffer : List ℕ) → Bytes i → let l = load i s in let v = save l.tag l.store buffer in
     l.number ≡ 0 → image_size mf0aes20 ≤ length buffer → (v.number ≡ 0) × (v.image ≡ sets buffer 0 i)
 
--- saved into any buffer that is long enough, and the first bytes of that loaded into any store of the right length: both are answered 0; counters,
--- failed count, originality key and store are the same, the tag is in WAITING, and its challenge is zeros
+-- counters, failed count, originality key and store are the same; the tag is in WAITING, and its challenge is zeros
+abbrev pub SaveThenLoad : Type 0
+SaveThenLoad =
+    (tag : Tag) (s buffer other : List ℕ) → WellFormed tag s → image_size mf0aes20 ≤ length buffer → length other ≡ store_size mf0aes20
+    → let v = save tag s buffer in let l = load (take (image_size mf0aes20) v.image) other in
+    (v.number ≡ 0) × (l.number ≡ 0) × (l.tag ≡ fleeting Waiting zeros tag) × (l.store ≡ s)
+
+-- saved into any buffer that is long enough, and the first bytes of that loaded into any store of the right length: the same
 abbrev pub LoadsAgain : Tag → List ℕ → Type 0
 LoadsAgain tag s =
     (buffer other : List ℕ) → image_size mf0aes20 ≤ length buffer → length other ≡ store_size mf0aes20
     → let v = save tag s buffer in let l = load (take (image_size mf0aes20) v.image) other in
     (v.number ≡ 0) × (l.number ≡ 0) × (l.tag ≡ fleeting Waiting zeros tag) × (l.store ≡ s)
-
-abbrev pub SaveThenLoad : Type 0
-SaveThenLoad = (tag : Tag) (s : List ℕ) → WellFormed tag s → LoadsAgain tag s
 
 abbrev pub SavedAtAnyTime : Type 0
 SavedAtAnyTime = FromEveryImage (λ b calls. LoadsAgain (end tag_machine b calls).tag (end tag_machine b calls).store)

@@ -16,7 +16,6 @@ use Rattle.model.specs.declared.Tag.{Tag}
 use Rattle.model.specs.declared.Decision.{Decision}
 use Rattle.model.specs.declared.Say.{Say}
 use Rattle.model.specs.declared.Say.TheVariants.{Silence, Nibble, Window, Range, Count, Block}
-use Rattle.model.specs.declared.Reply as reply
 use Rattle.model.specs.declared.Command.{Command}
 use Rattle.model.specs.declared.Command.TheVariants.{Read, FastRead, Write, ReadCnt, IncrCnt, Authenticate, Proof, Halt}
 use Rattle.model.specs.Map.{mf0aes20}

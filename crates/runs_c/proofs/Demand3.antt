@@ -7,7 +7,6 @@ use mathlib.Core.Path.{◌≡◌, sym, ap, subst, ◌∙◌}
 use mathlib.Core.List.{List, [], ◌∷◌, map}
 use mathlib.Core.Bool.{Bool, true, false, cond}
 use Prim.Native.Nat.{ℕ}
-use lib.ListN.{take}
 use Rattle.forget.specs.Machine.{Entry, Every, log, end}
 use Rattle.forget.specs.Claim.{Forgets}
 use Rattle.forget.specs.Striking.{Fate, clean, is_stays, fates, having, staying, behind_others, remaining}

@@ -10,8 +10,7 @@ use c_record::{RECORD_SIZE, record_of};
 use model::Reply;
 
 // The field comes on. Any record is taken: its stored part stays as it is.
-#[unsafe(no_mangle)]
-pub extern "C" fn kz_power(record: &mut [u8]) -> u8
+pub fn kz_power(record: &mut [u8]) -> u8
     ensures value { result ≡ (power «record».old).number }
     ensures record_after { «record».new ≡ (power «record».old).bytes }
 {
@@ -22,8 +21,7 @@ pub extern "C" fn kz_power(record: &mut [u8]) -> u8
 }
 
 // The reader selects the tag, whatever its state and its record.
-#[unsafe(no_mangle)]
-pub extern "C" fn kz_select(record: &mut [u8]) -> u8
+pub fn kz_select(record: &mut [u8]) -> u8
     ensures value { result ≡ (select «record».old).number }
     ensures record_after { «record».new ≡ (select «record».old).bytes }
 {
@@ -34,8 +32,7 @@ pub extern "C" fn kz_select(record: &mut [u8]) -> u8
 }
 
 // A frame, with sixteen random bytes and a buffer for the reply.
-#[unsafe(no_mangle)]
-pub extern "C" fn kz_frame(
+pub fn kz_frame(
     record: &mut [u8],
     store: &mut [u8],
     f: &[u8],
@@ -55,8 +52,7 @@ pub extern "C" fn kz_frame(
 }
 
 // An image file is loaded into a store, and its record into the record buffer.
-#[unsafe(no_mangle)]
-pub extern "C" fn kz_load(record: &mut [u8], store: &mut [u8], file: &[u8]) -> u8
+pub fn kz_load(record: &mut [u8], store: &mut [u8], file: &[u8]) -> u8
     ensures value { result ≡ (load «record».old store.old file.now).number }
     ensures record_after { «record».new ≡ (load «record».old store.old file.now).bytes }
     ensures store_after { store.new ≡ (load «record».old store.old file.now).store }
@@ -68,8 +64,7 @@ pub extern "C" fn kz_load(record: &mut [u8], store: &mut [u8], file: &[u8]) -> u
 }
 
 // The tag is saved as an image file, into the first bytes of a buffer.
-#[unsafe(no_mangle)]
-pub extern "C" fn kz_save(record: &[u8], store: &[u8], file: &mut [u8]) -> u8
+pub fn kz_save(record: &[u8], store: &[u8], file: &mut [u8]) -> u8
     ensures value { result ≡ (save «record».now store.now file.old).number }
     ensures file_after { file.new ≡ (save «record».now store.now file.old).file }
 {

@@ -1,7 +1,7 @@
 -- `crc::crc_bytes` meets its contract. The loop's invariant: the bytes that are left take the register to the frame's CRC_A.
 -- Assumes nothing.
 use mathlib.Core.Path.{refl, sym, ap, ◌∙◌}
-use Prim.Native.Nat.{ℕ, ◌+◌, ◌-◌}
+use Prim.Native.Nat.{ℕ, ◌+◌}
 use native.Mathlib.Omega.{arith}
 use lib.ListN.{drop}
 use Rattle.crc.specs.CrcA.{crc_from, crc_a}

@@ -1,8 +1,7 @@
 -- `image::load` meets its contract: answered 0 it hands back what the image holds, else the zero record and the store as it was.
 -- Assumes nothing.
-use mathlib.Core.Path.{◌≡◌, refl}
+use mathlib.Core.Path.{refl}
 use native.Mathlib.Omega.{arith}
-use Rattle.model.specs.Image.{load_number}
 use Rattle.image.proofs.Calls.{load-right, load-done, load-refused}
 use Rattle.image.proofs.load.Goals as goal
 

@@ -1,9 +1,8 @@
 -- `image::save` meets its contract: answered 0 the image is laid over the buffer, else the buffer is as it was.
 -- Assumes nothing.
-use mathlib.Core.Path.{◌≡◌, refl}
+use mathlib.Core.Path.{refl}
 use native.Mathlib.Omega.{arith}
 use lib.ListN.{length}
-use Rattle.model.specs.Image.{save_number}
 use Rattle.image.proofs.Calls.{save-right, save-done, save-refused}
 use Rattle.image.proofs.save.Goals as goal
 

@@ -1,7 +1,6 @@
 -- `keys::block_of` meets its contract. The loop's invariant: the first i bytes are there.
 -- Assumes nothing.
 use mathlib.Core.Path.{◌≡◌, refl, sym, ◌∙◌}
-use Prim.Native.Nat.{◌-◌}
 use native.Mathlib.Omega.{arith}
 use lib.ListN.{get_or, length-set}
 use lib.Seq.{take_all}

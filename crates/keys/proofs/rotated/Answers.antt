@@ -1,7 +1,5 @@
 use Rattle.model.specs.Authentication as rotated'
 use mathlib.Core.Path.{refl}
-use Rattle.keys.proofs.rotated.Reads as reads
-use Rattle.keys.proofs.rotated.Lts as lts
 use Rattle.keys.proofs.rotated.Goals as goal
 
 pub returns : goal.returns

@@ -1,7 +1,6 @@
 -- `keys::same_bytes` meets its contract. The loop's invariant: what was compared so far, and the rest, are the whole comparison.
 -- Assumes nothing.
 use mathlib.Core.Path.{◌≡◌, refl, sym, ◌∙◌}
-use Prim.Native.Nat.{◌-◌}
 use native.Mathlib.Omega.{arith}
 use lib.ListN.{length}
 use Rattle.keys.proofs.Bytes.{same_more, same-all}

@@ -3,7 +3,6 @@
 use mathlib.Core.Path.{sym, ap, ◌∙◌}
 use Rattle.model.specs.declared.Barred.TheVariants.{Open}
 use Rattle.model.specs.Numbers.{refused}
-use Rattle.model.specs.Authentication.{rotated}
 use Rattle.login.proofs.PartTwo.{proof-refused, proof-granted}
 use Rattle.login.proofs.judge_answer.Goals as goal
 

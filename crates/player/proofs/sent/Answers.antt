@@ -10,9 +10,9 @@ use Rattle.player.proofs.sent.Goals as goal
 -- a place has one digit
 pub spoken-last-requires : goal.spoken-last-requires
 spoken-last-requires c = record {
-      place_bound = omega (arith, c.barred_place.ensures.upper_bound);
-      reply_len_bound = search rules;
-    }
+  place_bound = omega (arith, c.barred_place.ensures.upper_bound);
+  reply_len_bound = search rules;
+}
 
 pub returns : goal.returns
 returns c =

@@ -1,12 +1,10 @@
 -- `rounds::cipher` meets its contract. The loop's invariant: s is the state after n rounds. The measure is what is left of nine.
 -- Assumes nothing.
 use mathlib.Core.Path.{◌≡◌, refl, ap, ap₂, ◌∙◌}
-use Prim.Native.Nat.{◌-◌}
 use native.Mathlib.Numerals.{add-one}
 use native.Mathlib.Omega.{arith}
 use Rattle.fips197.specs.State.{add_round_key}
 use Rattle.fips197.specs.Cipher as cipher
-use Rattle.columns.specs.Words.{columns_of}
 use Rattle.rounds.proofs.cipher.Goals as goal
 
 pub loop-n-init : goal.loop-n-init

@@ -1,6 +1,6 @@
 -- `rounds::inv_cipher` meets its contract. The loop's invariant: the inverse rounds n to 1 of s are all nine of the start.
 use mathlib.Core.Path.{◌≡◌}
-use Prim.Native.Nat.{◌-◌, ◌≤◌}
+use Prim.Native.Nat.{◌≤◌}
 use Rattle.fips197.specs.Cipher.{inv_rounds}
 use Rattle.columns.specs.Words.{columns_of}
 use Rattle.rounds.proofs.inv_cipher.Given as goal

@@ -2,7 +2,6 @@
 -- Assumes nothing.
 use mathlib.Core.Path.{sym, ap, ◌∙◌}
 use lib.Seq.{sets}
-use native.Mathlib.Omega.{arith}
 use Rattle.shown.proofs.Shown.{shown-length, run-pages}
 use Rattle.shown.proofs.lay_pages.Goals as goal
 

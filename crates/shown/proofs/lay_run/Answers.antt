@@ -1,7 +1,7 @@
 -- `shown::lay_run` meets its contract. The loop's invariant: the first i bytes are laid. The measure is what is left of them.
 -- Assumes nothing.
 use mathlib.Core.Path.{refl, ap, ◌∙◌}
-use Prim.Native.Nat.{◌+◌, ◌-◌}
+use Prim.Native.Nat.{◌+◌}
 use native.Mathlib.Omega.{arith}
 use lib.ListN.{set}
 use lib.Seq.{sets}

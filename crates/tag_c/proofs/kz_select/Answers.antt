@@ -7,9 +7,9 @@ use Rattle.tag_c.proofs.kz_select.Goals as goal
 
 pub returns-then-record-ne-RECORD_SIZE : goal.returns-then-record-ne-RECORD_SIZE
 returns-then-record-ne-RECORD_SIZE c = rw (select-other c.args.«record».now (λ e. omega arith)) (record {
-      value = refl;
-      record_after = refl;
-    })
+  value = refl;
+  record_after = refl;
+})
 
 pub returns : goal.returns
 returns c =

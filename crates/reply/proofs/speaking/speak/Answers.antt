@@ -1,8 +1,6 @@
 -- `reply::speaking::speak` meets its contract: nothing is laid for silence and a nibble, and all else is laid and sealed.
 -- Assumes nothing.
 use mathlib.Core.Path.{ap}
-use mathlib.Core.List.{List}
-use Prim.Native.Nat.{ℕ, ◌+◌, ◌≤◌}
 use native.Mathlib.Omega.{arith}
 use lib.ListN.{length}
 use Rattle.model.specs.declared.Reply.TheVariants.{Bytes}

@@ -1,10 +1,9 @@
 -- `script::line::line_of` meets its contract: each branch is a case of the definition.
 -- Assumes nothing.
-use mathlib.Core.Path.{◌≡◌, sym, ◌∙◌}
-use mathlib.Core.Bool.{true}
+use mathlib.Core.Path.{sym, ◌∙◌}
 use native.Mathlib.Omega.{arith}
 use borrow.Author.Rules.{rules}
-use Rattle.script.specs.Line.{line_of, frame_right}
+use Rattle.script.specs.Line.{line_of}
 use Rattle.script.proofs.Frames.{frame-long}
 use Rattle.script.proofs.line.line_of.Goals as goal
 

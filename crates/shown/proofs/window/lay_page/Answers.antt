@@ -2,7 +2,6 @@
 -- Assumes nothing.
 use mathlib.Core.Path.{ap, ◌∙◌}
 use lib.Seq.{sets}
-use native.Mathlib.Omega.{arith}
 use Rattle.shown.proofs.Shown.{run-page}
 use Rattle.shown.proofs.window.lay_page.Goals as goal
 

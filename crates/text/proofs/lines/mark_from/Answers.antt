@@ -1,7 +1,6 @@
 -- `text::lines::mark_from` meets its contract. The loop's invariant: there is no mark before e. The measure is what is left.
 -- Assumes nothing.
 use mathlib.Core.Path.{refl}
-use Prim.Native.Nat.{◌-◌}
 use native.Mathlib.Numerals.{add-one}
 use native.Mathlib.Omega.{arith}
 use Rattle.text.proofs.Pieces.{mark-none, mark-here, mark_on}
