@@ -76,7 +76,7 @@ def played_row(tag, row):
     for line in lines:
         if line[0] == "power":
             tag.power()
-        elif line[0] in ("select", "toActive"):
+        elif line[0] in ("select", "to_active"):
             tag.select()
         else:
             _, frame, rnd, number, reply, place = line

@@ -39,7 +39,7 @@ def reply_text(reply):
 
 def line_text(line):
     if line[0] != "frame":
-        return {"power": "power", "select": "select", "toActive": "select"}[line[0]]
+        return {"power": "power", "select": "select", "to_active": "select"}[line[0]]
     _, frame, random, number, reply, place = line
     return "frame %s %s %d %d %s" % (hexes(frame), hexes(random), number, place, reply_text(reply))
 

@@ -3,6 +3,7 @@
 --   merged_keeps      a bit that is set and kept is set in the merged byte
 --   kept-covers       the kept bits of every page hold its one-way bits, computed at each place of the store
 --   bits-page         a WRITE clears no one-way bit
+--   bits-step         nor does a call
 --   bits-list         nor does a list of calls
 --
 -- Assumes nothing.
@@ -25,10 +26,10 @@ use Rattle.model.specs.declared.Quad.{Quad}
 use Rattle.model.specs.Map.{mf0aes20}
 use Rattle.model.specs.Writing.{merged, keep_of, opened_of, written}
 use Rattle.model.specs.Frame.{store_after}
-use Rattle.model.specs.Calls.{Box, Call, tag_machine, Fit}
+use Rattle.model.specs.Calls.{Box, Call, tag_machine, Fit, step}
 use Rattle.model.specs.FieldClaims.{one_way_bits}
 use Rattle.model.proofs.Valid.{Valid, sets-four-at}
-use Rattle.model.proofs.StoreByte.{KeptByWrite, byte-list}
+use Rattle.model.proofs.StoreByte.{KeptByWrite, byte_step, byte-list}
 
 -- a bit that is set and kept is set in the merged byte
 merged_keeps : (k keep opened old new : ℕ) → bit_of k keep ≡ 1 → bit_of k old ≡ 1 → bit_of k (merged keep opened old new) ≡ 1
@@ -99,6 +100,10 @@ bits-page i k way b v p q inside old =
     (λ e. bits-written s i k p 2 o.c q.c way old (lit< tt) (omega arith))
     (λ e. bits-written s i k p 3 o.d q.d way old (lit< tt) (omega arith))
     old
+
+pub bits-step : (b : Box) (c : Call) (i k : ℕ) → Valid b → Fit c → bit_of k (one_way_bits i) ≡ 1 → bit_of k (get_or b.store i 0) ≡ 1
+    → bit_of k (get_or (step b c).next.store i 0) ≡ 1
+bits-step b c i k v h way = byte_step (λ (x : ℕ). bit_of k x ≡ 1) i (bits-page i k way) b c v h
 
 pub bits-list : (b : Box) → Valid b → (list : List Call) → Every Fit list → (i k : ℕ) → bit_of k (one_way_bits i) ≡ 1
     → bit_of k (get_or b.store i 0) ≡ 1 → bit_of k (get_or (end tag_machine b list).store i 0) ≡ 1
