@@ -5,7 +5,7 @@ usage: tools/snake_names.py        at the top of the repository, once, after the
 
 It collects each name that a .antt file of crates/ declares with a lower-case first letter and a capital within (crcBits, sBox-byte), and respells it
 wherever it stands as a word in crates/: .antt, .rt and .edit files. Functions of src/, strings and fields that come from src/ have no such names.
-It stops where two names would fall together in one file, and writes then nothing.
+It stops where two names would fall together anywhere, and writes then nothing.
 """
 import os
 import re
