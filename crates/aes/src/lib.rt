@@ -1,5 +1,4 @@
-// AES-128 of FIPS 197: keys and blocks by value, for any bytes. A public call copies each table that it needs once, and lends it to the
-// functions below it.
+// AES-128 of FIPS 197: keys and blocks by value, for any bytes.
 #![tactic(auto)]
 
 ghost use Rattle.std.specs.Prelude.{◌≡◌};
@@ -11,8 +10,7 @@ ghost use Rattle.aes.specs.TwoBlocks.{decipher_two};
 pub fn key_schedule(key: [u8; 16]) -> [u8; 176]
     ensures { result ≡ key_expansion key }
 {
-    let table = sboxes::sbox();
-    schedule::expand(&table, key)
+    schedule::expand(key)
 }
 
 // One block enciphered, FIPS 197 section 5.1.
@@ -20,21 +18,20 @@ pub fn key_schedule(key: [u8; 16]) -> [u8; 176]
 pub fn encipher(key: [u8; 16], block: [u8; 16]) -> [u8; 16]
     ensures { result ≡ encipher key block }
 {
-    let table = sboxes::sbox();
-    let w = schedule::expand(&table, key);
-    rounds::cipher(&table, &w, block)
+    let w = key_schedule(key);
+    rounds::cipher(&w, block)
 }
 
-// One block deciphered, FIPS 197 section 5.3.
+// One block deciphered, FIPS 197 section 5.3. Apart from `encipher`: two algorithms of the standard, each with its definition.
 #[tactic(auto, unfolding(fips197::specs::Cipher::decipher))]
 pub fn decipher(key: [u8; 16], block: [u8; 16]) -> [u8; 16]
     ensures { result ≡ decipher key block }
 {
     let w = key_schedule(key);
-    let table = sboxes::inv_sbox();
-    rounds::inv_cipher(&table, &w, block)
+    rounds::inv_cipher(&w, block)
 }
 
+// A struct and no array: the definitions of aes/specs and cbc/specs name its fields.
 #[derive(Clone, Copy)]
 pub struct TwoBlocks {
     pub first: [u8; 16],
@@ -47,11 +44,8 @@ pub fn decipher_two(key: [u8; 16], first: [u8; 16], second: [u8; 16]) -> TwoBloc
     ensures { result ≡ decipher_two key first second }
 {
     let w = key_schedule(key);
-    let table = sboxes::inv_sbox();
-    let p1 = rounds::inv_cipher(&table, &w, first);
-    let p2 = rounds::inv_cipher(&table, &w, second);
     TwoBlocks {
-        first: p1,
-        second: p2,
+        first: rounds::inv_cipher(&w, first),
+        second: rounds::inv_cipher(&w, second),
     }
 }

@@ -1,64 +1,39 @@
--- Laws of texts that are laid over a buffer one behind the other.
+-- Laws of digits that are put one behind the other.
 --
---   written_byte            one byte
---   written-append          a text, and another behind it
---   written_one, written-two    the digits of a number
---   place_none, place-written   no place has no text; any other has a space before its digit
---   data-none, data-some    no data has no text; any other has a space before its digits
---   part_length             the first bytes of a list are no longer than it
+--   byte_put    the two digits of one more byte, behind those of the bytes so far
 --
 -- Assumes nothing.
-use mathlib.Core.Path.{◌≡◌, refl, sym, ap, ◌∙◌}
-use mathlib.Core.List.{List, [], ◌∷◌, ◌++◌}
-use Prim.Native.Nat.{ℕ, zero, suc, ◌+◌, ◌/◌, ◌%◌, ◌≤◌, ◌<◌}
-use native.Mathlib.Omega.{arith}
-use borrow.Author.Tests.{lt-ltb, le-ltb}
-use lib.ListN.{length, take, set, length-append, length-take}
-use lib.Seq.{sets}
-use Rattle.octets.proofs.Laid.{sets-append}
-use Rattle.answers.specs.Answer.{number_text, place_text, hex_text, data_text, WrittenAt}
+use Rattle.std.proofs.Common.{◌≡◌, ℕ, suc, ◌+◌, ◌*◌, ◌/◌, ◌%◌, List, [], ◌∷◌, ◌++◌, get_or, refl, sym, ◌∙◌, ap, arith, append_assoc}
+use Rattle.text.specs.Listed.{listed}
+use Rattle.answers.specs.Answer.{letter_of, half_at, letter_at}
 
-pub written_byte : (l : List ℕ) (at x : ℕ) → WrittenAt l (set l at x) at (at + 1) (x ∷ [])
-written_byte l at x = record { ends = refl; bytes = refl }
+high : (ds : List ℕ) (i : ℕ) → letter_at ds (2 * i) ≡ letter_of (get_or ds i 0 / 16)
+unfolding letter_at half_at
+high ds i =
+    let even : 2 * i % 2 ≡ 0 = omega arith in
+    let half : 2 * i / 2 ≡ i = omega arith in
+    rw (even, half) refl
 
-pub written-append : {a b c xs ys : List ℕ} {at mid end : ℕ} → WrittenAt a b at mid xs → WrittenAt b c mid end ys → WrittenAt a c at end (xs ++ ys)
-written-append {a} {b} {c} {xs} {ys} {at} {mid} {end} f g = record {
-  ends = omega (arith, f.ends, g.ends, length-append xs ys);
-  bytes = g.bytes ∙ (λ i. sets (f.bytes i) (f.ends i) ys) ∙ sym (sets-append a at xs ys);
-}
+low : (ds : List ℕ) (i : ℕ) → letter_at ds (suc (2 * i)) ≡ letter_of (get_or ds i 0 % 16)
+unfolding letter_at half_at
+low ds i =
+    let odd : suc (2 * i) % 2 ≡ 1 = omega arith in
+    let half : suc (2 * i) / 2 ≡ i = omega arith in
+    rw (odd, half) refl
 
-pub written_one : (l : List ℕ) (n : ℕ) → n < 10 → WrittenAt l (set l 0 (48 + n)) 0 1 (number_text n)
-unfolding number_text
-written_one l n h = rw (lt-ltb n 10 h) (record { ends = refl; bytes = refl })
+two_more : (ds : List ℕ) (i : ℕ)
+    → listed (letter_at ds) (2 * (i + 1)) ≡ listed (letter_at ds) (2 * i) ++ (letter_of (get_or ds i 0 / 16) ∷ letter_of (get_or ds i 0 % 16) ∷ [])
+unfolding listed
+two_more ds i =
+    let next : 2 * (i + 1) ≡ suc (suc (2 * i)) = omega arith in
+    ap (listed (letter_at ds)) next
+    ∙ append_assoc (listed (letter_at ds) (2 * i)) (letter_at ds (2 * i) ∷ []) (letter_at ds (suc (2 * i)) ∷ [])
+    ∙ (λ k. listed (letter_at ds) (2 * i) ++ (high ds i k ∷ low ds i k ∷ []))
 
-pub written-two : (l : List ℕ) (n : ℕ) → 10 ≤ n → WrittenAt l (set (set l 0 (48 + n / 10)) 1 (48 + n % 10)) 0 2 (number_text n)
-unfolding number_text
-written-two l n h = rw (le-ltb n 10 h) (record { ends = refl; bytes = refl })
-
-pub place_none : (k : ℕ) → k ≡ 0 → place_text k ≡ []
-unfolding place_text
-place_none zero h = refl
-place_none (suc k) h = absurd (omega arith)
-
-place-some : (k : ℕ) → (k ≡ 0 → ⊥) → place_text k ≡ (32 ∷ []) ++ ((48 + k) ∷ [])
-unfolding place_text
-place-some zero h = absurd (h refl)
-place-some (suc k) h = refl
-
-pub place-written : (l : List ℕ) (at k : ℕ) → (k ≡ 0 → ⊥) → WrittenAt l (set (set l at 32) (at + 1) (48 + k)) at (at + 2) (place_text k)
-place-written l at k h =
-    let both = written-append (written_byte l at 32) (written_byte (set l at 32) (at + 1) (48 + k)) in
-    rw (place-some k h) (record { ends = omega (arith, both.ends); bytes = both.bytes })
-
-pub data-none : (ds : List ℕ) → length ds ≡ 0 → data_text ds ≡ []
-unfolding data_text
-data-none [] h = refl
-data-none (d ∷ ds) h = absurd (omega arith)
-
-pub data-some : (ds : List ℕ) → (length ds ≡ 0 → ⊥) → data_text ds ≡ (32 ∷ []) ++ hex_text ds
-unfolding data_text
-data-some [] h = absurd (h refl)
-data-some (d ∷ ds) h = refl
-
-pub part_length : (d l : List ℕ) (k : ℕ) → d ≡ take k l → length d ≤ length l
-part_length d l k e = omega (arith, ap length e, length-take k l)
+pub byte_put : (l before after ds two : List ℕ) (i : ℕ) → before ≡ l ++ listed (letter_at ds) (2 * i)
+    → two ≡ letter_of (get_or ds i 0 / 16) ∷ letter_of (get_or ds i 0 % 16) ∷ [] → after ≡ before ++ two → after ≡ l ++ listed (letter_at ds) (2 * (i + 1))
+byte_put l before after ds two i so_far digits put =
+    put
+    ∙ (λ k. so_far k ++ digits k)
+    ∙ append_assoc l (listed (letter_at ds) (2 * i)) (letter_of (get_or ds i 0 / 16) ∷ letter_of (get_or ds i 0 % 16) ∷ [])
+    ∙ ap (λ x. l ++ x) (sym (two_more ds i))

@@ -1,38 +1,25 @@
 // The bench program: an image by name, lines from standard input, and an answer for each (document 01, "Image file and bench program").
 #![tactic(auto)]
 
-ghost use Rattle.io.specs.Counts.{IsPrefixLen};
-
 mod file;
 
+use answers::answer::answer;
+use arrayvec::ArrayVec;
 use std::env::Env;
 
-// Standard output.
-const STDOUT_FILENO: i32 = 1;
-
-// An image that is refused or can't be opened: its number and nothing more.
-fn refused(number: u8) {
-    let mut text = io::buffer();
-    let n = answers::answer::answer(&mut text, number, 0, b"");
-    io::write_all(STDOUT_FILENO, &text[..n]);
-}
-
-// The program's argument, as far as the buffer reaches; nothing where there is none.
-fn argument<R: Env>(rt: &R, name: &mut [u8]) -> usize
-    ensures { IsPrefixLen result name.new }
-{
-    rt.arg(1, name).unwrap_or(0)
-}
-
+// An image that is refused or can't be opened is answered by its number and nothing more. A name that is no UTF-8 can't be opened, nor can a missing one.
+// Where an answer can't be written there is nothing left to do.
+// The name has a count beside its buffer: `rt.arg` reads into a buffer, and a longer name than that had no file before either.
 fn main(rt: HostRuntime) {
-    let mut name = io::buffer();
-    let n = argument(&rt, &mut name);
-    let mut store = [0u8; 240];
-    let l = file::loaded(&rt, &name[..n], &mut store);
-    if l.number != 0 {
-        refused(l.number);
-        return;
+    let mut name = [0; 4096];
+    let n = rt.arg(1, &mut name).unwrap_or(0);
+    let mut store = [0; 240];
+    let loading = file::loaded(&rt, str::from_utf8(&name[..n]).unwrap_or(""), &mut store);
+    if loading.number != 0 {
+        let mut text = ArrayVec::new();
+        answer(&mut text, loading.number, 0, b"");
+        let _ = rt.write_all(&text);
+    } else {
+        let _ = input::play_input(&rt, loading.tag, &mut store);
     }
-    let tag = l.tag;
-    input::play_input(&rt, tag, &mut store);
 }

@@ -6,16 +6,13 @@ ghost use Rattle.c_answer.specs.Answer.{packed, answer_of, count_of};
 
 use model::Reply;
 
-// Number, reply kind, nibble, reason and byte count; there is no bit count.
+// Number, reply kind, nibble, reason and byte count; there is no bit count. A kind is a number, as C reads it (docs/C-FORM.md).
 #[tactic(auto, unfolding(crate::specs::Answer::packed))]
 fn packed(number: u8, kind: u8, nibble: u8, reason: u8, count: u16) -> u64
     ensures { result ≡ packed number kind nibble reason count 0 }
 {
-    (number as u64)
-        + 0x100 * (kind as u64)
-        + 0x10000 * (nibble as u64)
-        + 0x1000000 * (reason as u64)
-        + 0x100000000 * (count as u64)
+    let [low, high] = count.to_le_bytes();
+    u64::from_le_bytes([number, kind, nibble, reason, low, high, 0, 0])
 }
 
 // The answer of a number, the place of the rule that stopped a WRITE, and a reply.

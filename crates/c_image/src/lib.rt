@@ -1,25 +1,22 @@
 // Loading and saving in the C form, over a record buffer of the right length (docs/C-FORM.md).
 #![tactic(auto)]
 
-ghost use Rattle.std.specs.Prelude.{◌≡◌, length};
+ghost use Rattle.std.specs.Prelude.{◌≡◌};
 ghost use Rattle.model.specs.Image.{load, save};
-ghost use Rattle.c_record.specs.Record.{record_size, record_of, handed_back};
+ghost use Rattle.c_record.specs.Record.{record_of, handed_back};
 
-use c_record::record_of;
+use c_record::{RECORD_SIZE, record_of};
 use c_write::hand_back;
 
 // An image file is loaded into a store, and its record into the record buffer.
-pub fn load(b: &mut [u8], store: &mut [u8], file: &[u8]) -> u8
-    requires { length b.old ≡ record_size }
+pub fn load(b: &mut [u8; RECORD_SIZE], store: &mut [u8], file: &[u8]) -> u8
     ensures value { result ≡ (load file.now store.old).number }
     ensures b_after { b.new ≡ handed_back (load file.now store.old).number (load file.now store.old).tag b.old }
     ensures store_after { store.new ≡ (load file.now store.old).store }
 {
-    let l = image::load(file, store);
-    let number = l.number;
-    let next = l.tag;
-    hand_back(b, number, next);
-    number
+    let loaded = image::load(file, store);
+    hand_back(b, loaded.number, loaded.tag);
+    loaded.number
 }
 
 // The tag is saved as an image file, into the first bytes of a buffer.

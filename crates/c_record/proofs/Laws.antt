@@ -1,7 +1,7 @@
 -- The claims of specs/Claims.antt, each under its name in lower case, and these laws.
 --
 --   head-long, bytes-long    the first part has 16 bytes, and the whole 48
---   blocks-long, laid        three blocks one behind the other; laid so over 48 bytes
+--   blocks-long              three blocks one behind the other
 --   event-bytes, ended-bytes the bytes of a record behind an event, and behind a refusal: the stored ones but the count are kept
 --   bytes-hold               any bytes hold a record as a program has it
 --   handed-kept, handed-written
@@ -17,8 +17,7 @@ use native.Mathlib.Omega.{arith}
 use borrow.Author.Tests.{ne_eqb}
 use lib.Dec.{eqb}
 use lib.ListN.{length, get_or, take, drop, length-append, length-drop}
-use lib.Seq.{sets, take_all, take_at, drop-cons, drop-append-add}
-use Rattle.octets.proofs.Laid.{sets-append, sets-all}
+use lib.Seq.{take_all, take_at, drop-cons, drop-append-add}
 use Rattle.fields.proofs.Fields.{number-two, number-four, block-byte}
 use Rattle.model.specs.declared.Tag.{Tag}
 use Rattle.model.specs.declared.State.{State}
@@ -43,18 +42,6 @@ blocks-long x y z hx hy hz = omega (arith, length-append (x ++ y) z, length-appe
 pub bytes-long : (tag : Tag) → length tag.originality ≡ 16 → length tag.challenge ≡ 16 → length (bytes_of tag) ≡ record_size
 unfolding bytes_of
 bytes-long tag = blocks-long (head_of tag.counters tag.failed tag.state) tag.originality tag.challenge (head-long tag.counters tag.failed tag.state)
-
--- b1 to b3 are the buffer after each block
-pub laid : (x y z b b1 b2 b3 : List ℕ) → length x ≡ 16 → length y ≡ 16 → length z ≡ 16 → length b ≡ record_size
-    → b1 ≡ sets b 0 x → b2 ≡ sets b1 16 y → b3 ≡ sets b2 32 z → b3 ≡ x ++ y ++ z
-laid x y z b b1 b2 b3 hx hy hz size e1 e2 e3 =
-    let n2 : 0 + length x ≡ 16 = omega arith in
-    let n3 : 0 + length (x ++ y) ≡ 32 = omega (arith, length-append x y) in
-    let two : b2 ≡ sets b 0 (x ++ y) =
-    e2 ∙ ap (λ (l : List ℕ). sets l 16 y) e1 ∙ ap (λ (n : ℕ). sets (sets b 0 x) n y) (sym n2) ∙ sym (sets-append b 0 x y) in
-    let three : b3 ≡ sets b 0 (x ++ y ++ z) =
-    e3 ∙ ap (λ (l : List ℕ). sets l 32 z) two ∙ ap (λ (n : ℕ). sets (sets b 0 (x ++ y)) n z) (sym n3) ∙ sym (sets-append b 0 (x ++ y) z) in
-    three ∙ sets-all b (x ++ y ++ z) (blocks-long x y z hx hy hz ∙ sym size)
 
 -- ---- decode after encode
 

@@ -9,7 +9,7 @@ use model::{State, Tag};
 
 pub const RECORD_SIZE: usize = 48;
 
-// The key number counts only while CHALLENGED.
+// The key number counts only while CHALLENGED. A function, since `From` for crate model's `State` may stand only there.
 #[tactic(auto, unfolding(crate::specs::Record::state_of))]
 fn state_of(number: u8, key: u8) -> State
     ensures { result ≡ state_of number key }
@@ -29,16 +29,11 @@ fn state_of(number: u8, key: u8) -> State
 pub fn record_of(b: &[u8]) -> Tag
     ensures { result ≡ record_of b.now }
 {
-    let counters = [number4(b, 0), number4(b, 4), number4(b, 8)];
-    let failed = number2(b, 12);
-    let state = state_of(octets::at(b, 14), octets::at(b, 15));
-    let originality = block_of(b, 16);
-    let challenge = block_of(b, 32);
     Tag {
-        counters,
-        failed,
-        originality,
-        state,
-        challenge,
+        counters: [number4(b, 0), number4(b, 4), number4(b, 8)],
+        failed: number2(b, 12),
+        originality: block_of(b, 16),
+        state: state_of(octets::at(b, 14), octets::at(b, 15)),
+        challenge: block_of(b, 32),
     }
 }

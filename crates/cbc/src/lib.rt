@@ -17,6 +17,7 @@ pub fn cbc_encipher(key: [u8; 16], chain: [u8; 16], block: [u8; 16]) -> [u8; 16]
 }
 
 // One block deciphered in CBC mode: chain is the ciphertext before it, or the initialization vector.
+// Apart from `cbc_encipher`: two algorithms of the standard, each with its definition.
 #[tactic(auto, unfolding(fips197::specs::Cbc::cbc_decipher))]
 pub fn cbc_decipher(key: [u8; 16], chain: [u8; 16], block: [u8; 16]) -> [u8; 16]
     ensures { result ≡ cbc_decipher key chain block }
@@ -32,9 +33,8 @@ pub fn cbc_decipher_two(key: [u8; 16], chain: [u8; 16], ciphertext: &[u8]) -> Tw
     let c1 = state::block_of(ciphertext, 0);
     let c2 = state::block_of(ciphertext, 16);
     let p = aes::decipher_two(key, c1, c2);
-    let p1 = p.first;
-    let p2 = p.second;
-    let first = state::xor_block(p1, chain);
-    let second = state::xor_block(p2, c1);
-    TwoBlocks { first, second }
+    TwoBlocks {
+        first: state::xor_block(p.first, chain),
+        second: state::xor_block(p.second, c1),
+    }
 }

@@ -4,18 +4,19 @@
 ghost use Rattle.std.specs.Prelude.{◌≡◌, length};
 ghost use Rattle.model.specs.declared.Command.TheVariants.{Authenticate};
 ghost use Rattle.model.specs.Authentication.{challenged};
-ghost use Rattle.model.specs.Frame.{commanded};
+ghost use Rattle.refusals.specs.Deciding.{decided, commanded_of};
 
-use model::{Barred, Decision, Effect, Map, Say, State, Tag};
+use memory::pages::Pages;
+use model::{Barred, Decision, Effect, Say, State, Tag};
+use refusals::RefusedFrame;
+use refusals::asked::Asked;
 
 // Part 1 done: the random block, enciphered, goes out and is kept.
 #[tactic(auto, unfolding(model::specs::Authentication::challenged))]
-fn challenge(map: Map, tag: Tag, s: &[u8], k: u8, random: &[u8]) -> Decision
-    requires { length random.now ≡ 16 }
-    ensures { result ≡ challenged map tag s.now k random.now }
+fn challenge(pages: &Pages, tag: Tag, k: u8, random: [u8; 16]) -> Decision
+    ensures { result ≡ challenged pages.now.map tag pages.now.bytes.now k random }
 {
-    let kept = keys::block_of(random);
-    let sent = keys::enciphered(keys::key_of(map, tag, s, k), kept);
+    let sent = keys::enciphered(keys::key_of(pages, tag, k), random);
     Decision {
         number: 0,
         reason: Barred::Open,
@@ -23,20 +24,16 @@ fn challenge(map: Map, tag: Tag, s: &[u8], k: u8, random: &[u8]) -> Decision
         say: Say::Block(0xaf),
         block: sent,
         state: State::Challenged(k),
-        challenge: kept,
+        challenge: random,
     }
 }
 
 // AUTHENTICATE, part 1.
-#[tactic(auto, unfolding(model::specs::Frame::command_number, model::specs::Frame::command_done, model::specs::Frame::command_reason))]
-pub fn authenticate(map: Map, tag: Tag, s: &[u8], f: &[u8], random: &[u8]) -> Decision
-    requires { length random.now ≡ 16 }
-    ensures { result ≡ commanded Authenticate map tag s.now f.now random.now }
+pub fn authenticate(asked: &Asked) -> Result<Decision, RefusedFrame>
+    requires { length asked.now.random.now ≡ 16 }
+    ensures { decided asked.now.tag result ≡ commanded_of Authenticate asked.now }
 {
-    let k = octets::at(f, 1);
-    let n = limit::challenge_number(map, tag, s, k);
-    if n == 0 {
-        return challenge(map, tag, s, k, random);
-    }
-    refusals::refused(n, Barred::Open, Effect::Keep)
+    let k = octets::at(asked.frame, 1);
+    limit::check_challenge(&asked.pages, asked.tag, k)?;
+    Ok(challenge(&asked.pages, asked.tag, k, keys::block_of(asked.random)))
 }

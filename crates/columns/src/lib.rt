@@ -1,5 +1,4 @@
-// Words and columns of the AES state, for `aes`: the steps of a round on them, FIPS 197 sections 5.1 and 5.3. Tables are lent.
+// The AES state and the steps of a round on it, for `rounds`: FIPS 197 sections 5.1 and 5.3 but for MixColumns.
 #![tactic(auto)]
 
 pub mod state;
-pub mod words;

@@ -4,34 +4,31 @@
 
 ghost use Rattle.std.specs.Prelude.{◌≡◌};
 ghost use Rattle.model.specs.declared.Command.TheVariants.{IncrCnt, Halt};
-ghost use Rattle.model.specs.Frame.{commanded};
+ghost use Rattle.refusals.specs.Deciding.{decided, commanded_of};
 
 use judge::frame::data_of;
-use model::{Barred, Decision, Effect, Map, Tag};
+use model::{Decision, Effect};
+use numbers::{Refusal, refuse_if};
+use refusals::RefusedFrame;
+use refusals::asked::Asked;
 
 // INCR_CNT, 009 10.6.
-#[tactic(auto, unfolding(model::specs::Frame::command_number, model::specs::Frame::command_done, model::specs::Frame::command_reason))]
-pub fn incr_cnt(map: Map, tag: Tag, s: &[u8], f: &[u8], random: &[u8]) -> Decision
-    ensures { result ≡ commanded IncrCnt map tag s.now f.now random.now }
+pub fn incr_cnt(asked: &Asked) -> Result<Decision, RefusedFrame>
+    ensures { decided asked.now.tag result ≡ commanded_of IncrCnt asked.now }
 {
-    let k = octets::at(f, 1);
-    let q = data_of(f);
-    let n = counters::incr_cnt_number(map, tag, s, k, q);
-    if n == 0 {
-        let v = counters::counter(tag, k);
-        let more = counters::increment(q);
-        return decisions::acknowledged(tag, Effect::Counter(k, v + more));
-    }
-    refusals::refused(n, Barred::Open, Effect::Keep)
+    let k = octets::at(asked.frame, 1);
+    let q = data_of(asked.frame);
+    counters::check_incr_cnt(&asked.pages, asked.tag, k, q)?;
+    let v = counters::counter(asked.tag, k);
+    let more = counters::increment(q);
+    Ok(decisions::acknowledged(asked.tag, Effect::Counter(k, v + more)))
 }
 
 // HLTA, 009 Table 20.
-#[tactic(auto, unfolding(model::specs::Frame::command_number, model::specs::Numbers::number_if, model::specs::Frame::command_done, model::specs::Frame::command_reason))]
-pub fn halt(map: Map, tag: Tag, s: &[u8], f: &[u8], random: &[u8]) -> Decision
-    ensures { result ≡ commanded Halt map tag s.now f.now random.now }
+#[tactic(auto, unfolding(model::specs::Numbers::number_if))]
+pub fn halt(asked: &Asked) -> Result<Decision, RefusedFrame>
+    ensures { decided asked.now.tag result ≡ commanded_of Halt asked.now }
 {
-    if octets::at(f, 1) == 0 {
-        return decisions::halted();
-    }
-    refusals::refused(5, Barred::Open, Effect::Keep)
+    refuse_if(octets::at(asked.frame, 1) != 0, Refusal::Argument)?;
+    Ok(decisions::halted())
 }

@@ -10,10 +10,8 @@ use reports::{digits, parts, report};
 fn change(file: &mut [u8], text: &[u8])
     requires { length file.old < 2048 }
 {
-    let at = digits::octet(text, 0) as usize;
-    if at < file.len() {
-        digits::lay(text, 1, &mut file[at..]);
-    }
+    let at = usize::from(text::digits::octet(text, 0)).min(file.len());
+    digits::lay(text, 1, &mut file[at..]);
 }
 
 // The file of a text, with up to two changes.

@@ -2,8 +2,8 @@
 --
 --   crc_bit-xor, crc_bits-xor   a bit step, and n of them, of registers xored are those of each, xored
 --   half-table                at each of the 16 half-bytes the table has four bit steps of it: a computed test
---   half-bytes-right          the claim
---   byte-halves               a byte is two half-bytes
+--   half_bytes_right          the claim
+--   byte_halves               a byte is two half-bytes
 --
 -- Assumes nothing.
 use mathlib.Core.Path.{◌≡◌, refl, sym, ap, ap₂, ◌∙◌}
@@ -22,9 +22,9 @@ use Rattle.crc.proofs.Laws.{shift-out}
 
 feed_back-xor : (p q x y : ℕ) → Digit p → Digit q → feed_back (bit_xor p q) (bit_xor x y) ≡ bit_xor (feed_back p x) (feed_back q y)
 feed_back-xor _ _ x y off off = refl
-feed_back-xor _ _ x y off on = xor_assoc x y 0x8408
-feed_back-xor _ _ x y on off = xor_assoc x y 0x8408 ∙ ap (bit_xor x) (xor_comm y 0x8408) ∙ sym (xor_assoc x 0x8408 y)
-feed_back-xor _ _ x y on on = sym (xor-swap x 0x8408 y 0x8408 ∙ xor_zero_r (bit_xor x y))
+feed_back-xor _ _ x y off on = xor_assoc x y _
+feed_back-xor _ _ x y on off = xor_assoc x y _ ∙ ap (bit_xor x) (xor_comm y _) ∙ sym (xor_assoc x _ y)
+feed_back-xor _ _ x y on on = sym (xor-swap x _ y _ ∙ xor_zero_r (bit_xor x y))
 
 pub crc_bit-xor : Additive crc_bit
 unfolding crc_bit
@@ -42,12 +42,12 @@ unfolding crc_bits crc_bit half_table
 half-table = equal-below (crc_bits 4) (λ k. get_or half_table k 0) 16 tt
 
 -- the register is its upper part, above four zeros, xor its low half-byte
-pub half-bytes-right : HalfBytesRight
-half-bytes-right r =
+pub half_bytes_right : HalfBytesRight
+half_bytes_right r =
     ap (crc_bits 4) (sym (xor_shifted (r / 16) 4 (r % 16) (mod-lt r (zero-lt-suc 15)) ∙ split r 4))
     ∙ crc_bits-xor 4 (r / 16 * 16) (r % 16)
     ∙ ap₂ bit_xor (shift-out 4 (r / 16)) (half-table (r % 16) (mod-lt r (zero-lt-suc 15)))
 
-pub byte-halves : (r : ℕ) → crc_bits 8 r ≡ crc_bits 4 (crc_bits 4 r)
+pub byte_halves : (r : ℕ) → crc_bits 8 r ≡ crc_bits 4 (crc_bits 4 r)
 unfolding crc_bits
-byte-halves r = refl
+byte_halves r = refl

@@ -1,5 +1,6 @@
 -- The laws of CRC_A that callers use in place of its definition.
 --
+--   crc_from_folds    the register after bs is the fold of the byte step over them
 --   crc_from-append   the register after a ++ b goes on from the register after a
 --   Bytes bs         every element of bs is a byte
 --   crc_from-lt       over bytes a register of 16 bits stays one
@@ -17,11 +18,17 @@ use mathlib.Core.List.{List, [], ◌∷◌, ◌++◌}
 use Prim.Native.Nat.{ℕ, zero, suc, ◌+◌, ◌*◌, ◌/◌, ◌%◌, ◌^◌, ◌<◌}
 use native.Mathlib.Nat.{mod-lt, zero-lt-suc}
 use native.Mathlib.Omega.{arith}
+use Rattle.std.specs.List.{fold}
 use lib.Bits.{bit_xor, xor_lt, xor_self, xor_shifted, shifted_half, shifted_even}
 use lib.Pow.{split}
 use lib.ListN.{length, get_or, length-append}
 use Rattle.bits.proofs.Xor.{xor-cancel}
 use Rattle.crc.specs.CrcA.{feed_back, crc_bit, crc_bits, crc_byte, crc_from, crc_a, on_air, with_crc, ResidueIsZero}
+
+pub crc_from_folds : (r : ℕ) (bs : List ℕ) → crc_from r bs ≡ fold crc_byte r bs
+unfolding crc_from
+crc_from_folds r [] = refl
+crc_from_folds r (b ∷ bs) = crc_from_folds (crc_byte r b) bs
 
 pub crc_from-append : (r : ℕ) (a b : List ℕ) → crc_from r (a ++ b) ≡ crc_from (crc_from r a) b
 unfolding crc_from
@@ -35,7 +42,7 @@ Bytes bs = (i : ℕ) → get_or bs i 0 < 256
 
 feed_back-lt : (b r : ℕ) → r < 65536 → feed_back b r < 65536
 feed_back-lt zero r h = h
-feed_back-lt (suc b) r h = xor_lt 16 r 0x8408 h (omega arith)
+feed_back-lt (suc b) r h = xor_lt 16 r _ h (omega arith)
 
 crc_bits-lt : (n r : ℕ) → r < 65536 → crc_bits n r < 65536
 unfolding crc_bits crc_bit

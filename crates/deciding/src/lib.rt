@@ -1,66 +1,67 @@
 // What a frame comes to: the checks in document 01's order, then the command. It only reads.
 #![tactic(auto)]
 
-ghost use Rattle.std.specs.Prelude.{◌≡◌, false, ◌≤◌, ◌<◌, length};
-ghost use Rattle.model.specs.Record.{is_waiting};
-ghost use Rattle.model.specs.Telling.{damaged};
-ghost use Rattle.model.specs.Frame.{misfit, commanded, decide};
+ghost use Rattle.std.specs.Prelude.{◌≡◌, ◌≤◌, ◌<◌, length};
+ghost use Rattle.model.specs.Frame.{decide};
+ghost use Rattle.refusals.specs.Deciding.{decided, commanded_of};
 
+use memory::pages::Pages;
 use memory::record;
-use model::{Barred, Command, Decision, Effect, Map, Tag, Told};
+use model::{Command, Decision, Tag};
+use numbers::{Refusal, refuse_if};
+use refusals::RefusedFrame;
+use refusals::asked::Asked;
 
 // A command, whose code and length are right.
-fn command(c: Command, map: Map, tag: Tag, s: &[u8], f: &[u8], random: &[u8]) -> Decision
-    requires in_bounds { 1 ≤ length f.now }
-    requires random_len { length random.now ≡ 16 }
-    requires failed_bound { tag.failed < 65535 }
-    ensures { result ≡ commanded c map tag s.now f.now random.now }
+fn command(c: Command, asked: &Asked) -> Result<Decision, RefusedFrame>
+    requires in_bounds { 1 ≤ length asked.now.frame.now }
+    requires random_len { length asked.now.random.now ≡ 16 }
+    requires failed_bound { asked.now.tag.failed < 65535 }
+    ensures { decided asked.now.tag result ≡ commanded_of c asked.now }
 {
     match c {
-        Command::Read => reads::read(map, tag, s, f, random),
-        Command::FastRead => reads::fast_read(map, tag, s, f, random),
-        Command::Write => writes::write(map, tag, s, f, random),
-        Command::ReadCnt => reads::read_cnt(map, tag, s, f, random),
-        Command::IncrCnt => commands::incr_cnt(map, tag, s, f, random),
-        Command::Authenticate => challenges::authenticate(map, tag, s, f, random),
-        Command::Proof => login::prove(map, tag, s, f, random),
-        Command::Halt => commands::halt(map, tag, s, f, random),
+        Command::Read => reads::read(asked),
+        Command::FastRead => reads::fast_read(asked),
+        Command::Write => writes::write(asked),
+        Command::ReadCnt => reads::read_cnt(asked),
+        Command::IncrCnt => commands::incr_cnt(asked),
+        Command::Authenticate => challenges::authenticate(asked),
+        Command::Proof => login::prove(asked),
+        Command::Halt => commands::halt(asked),
     }
 }
 
-// A frame of right CRC_A to a tag that is not WAITING: 3, 4 and the command's own.
-#[tactic(auto, unfolding(model::specs::Telling::told_number))]
-fn told(map: Map, tag: Tag, s: &[u8], f: &[u8], random: &[u8], room: usize) -> Decision
-    requires room_value { misfit map tag s.now random.now room ≡ false }
-    requires state_value { is_waiting tag.state ≡ false }
-    requires f_value { damaged f.now ≡ false }
-    ensures { result ≡ decide map tag s.now f.now random.now room }
+// The checks in their order: the first that applies refuses.
+fn judged(
+    pages: &Pages,
+    tag: Tag,
+    f: &[u8],
+    random: &[u8],
+    room: usize,
+) -> Result<Decision, RefusedFrame>
+    ensures { decided tag result ≡ decide pages.now.map tag pages.now.bytes.now f.now random.now room }
 {
-    let t = telling::told(octets::at(f, 0));
-    let st = tag.state;
-    let n = telling::told_number(t, st, f.len());
-    if n != 0 {
-        return refusals::refused(n, Barred::Open, Effect::Keep);
-    }
-    match t {
-        Told::Known(c, _) => command(c, map, tag, s, f, random),
-        Told::Nothing => decisions::halted(),
-    }
+    let misfit = judge::frame::misfit(pages, tag, random, room);
+    refuse_if(misfit, Refusal::Misfit)?;
+    let waiting = record::is_waiting(tag.state);
+    refuse_if(waiting, Refusal::Waiting)?;
+    let damaged = telling::damaged(f);
+    refuse_if(damaged, Refusal::Damaged)?;
+    let told = telling::told(octets::at(f, 0));
+    telling::check_told(told, tag.state, f.len())?;
+    let Some((c, _)) = told else { unreachable!() };
+    let asked = Asked {
+        pages: *pages,
+        tag,
+        frame: f,
+        random,
+    };
+    command(c, &asked)
 }
 
-// 10, 1 and 2 come first; 10 and 1 change nothing.
-pub fn decide(map: Map, tag: Tag, s: &[u8], f: &[u8], random: &[u8], room: usize) -> Decision
-    ensures { result ≡ decide map tag s.now f.now random.now room }
+// What a frame comes to.
+pub fn decide(pages: &Pages, tag: Tag, f: &[u8], random: &[u8], room: usize) -> Decision
+    ensures { result ≡ decide pages.now.map tag pages.now.bytes.now f.now random.now room }
 {
-    if judge::frame::misfit(map, tag, s, random, room) {
-        return refusals::kept(10, tag);
-    }
-    let st = tag.state;
-    if record::is_waiting(st) {
-        return refusals::kept(1, tag);
-    }
-    if telling::damaged(f) {
-        return refusals::refused(2, Barred::Open, Effect::Keep);
-    }
-    told(map, tag, s, f, random, room)
+    refusals::decided(tag, judged(pages, tag, f, random, room))
 }

@@ -15,8 +15,7 @@ const ACK: u8 = 0xa;
 pub fn answered(tag: Tag, y: Say) -> Decision
     ensures { result ≡ answered tag y }
 {
-    let state = tag.state;
-    plain(0, Barred::Open, Effect::Keep, y, state)
+    plain(0, Barred::Open, Effect::Keep, y, tag.state)
 }
 
 // Number 0 with ACK and what it stores.
@@ -24,8 +23,7 @@ pub fn answered(tag: Tag, y: Say) -> Decision
 pub fn acknowledged(tag: Tag, e: Effect) -> Decision
     ensures { result ≡ acknowledged tag e }
 {
-    let state = tag.state;
-    plain(0, Barred::Open, e, Say::Nibble(ACK), state)
+    plain(0, Barred::Open, e, Say::Nibble(ACK), tag.state)
 }
 
 // HLTA carried out: silence, and the session ends.

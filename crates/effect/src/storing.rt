@@ -1,11 +1,11 @@
-// What a decision stores: the only code that writes the store, a counter or the failed count.
+// What a decision stores: a page of the store, a counter or the failed count. No other code of a frame writes them.
 ghost use Rattle.std.specs.Prelude.{◌≡◌, [], ◌∷◌, ◌*◌};
 ghost use Rattle.std.proofs.lemmas.List.Edits.{sets};
 ghost use Rattle.model.specs.Frame.{store_after, counters_after, failed_after, tag_after};
 
 use model::{Decision, Effect, Quad, Tag};
 
-// The four bytes of page p.
+// The four bytes of page p. Four stores and not `octets::lay`, which requires that the page lies in the store.
 fn store_page(store: &mut [u8], p: u8, q: Quad)
     ensures { store.new ≡ sets store.old (4 * p) (q.a ∷ q.b ∷ q.c ∷ q.d ∷ []) }
 {
@@ -36,7 +36,7 @@ pub fn counters_after(cs: [u32; 3], e: Effect) -> [u32; 3]
         Effect::Counter(n, v) => {
             let mut after = cs;
             let i = n as usize;
-            if i < 3 {
+            if i < after.len() {
                 after[i] = v;
             }
             after
@@ -61,18 +61,14 @@ pub fn failed_after(c: u16, e: Effect) -> u16
 pub fn tag_after(tag: Tag, d: Decision) -> Tag
     ensures { result ≡ tag_after tag d }
 {
-    let effect = d.effect;
-    let state = d.state;
-    let challenge = d.challenge;
+    let counters = counters_after(tag.counters, d.effect);
     let originality = tag.originality;
-    let held = tag.counters;
-    let counters = counters_after(held, effect);
-    let failed = failed_after(tag.failed, effect);
+    let challenge = d.challenge;
     Tag {
         counters,
-        failed,
+        failed: failed_after(tag.failed, d.effect),
         originality,
-        state,
+        state: d.state,
         challenge,
     }
 }

@@ -8,7 +8,8 @@ ghost use Rattle.model.specs.Record.{zeros, fleeting, power, select};
 
 use model::{Barred, Reply, State, Tag};
 
-// What a call hands back: its number, its reply, the rule that stopped a write, and the record that the next call is given.
+// What a call hands back: its number, its reply, the rule that stopped a write, and the record that the next call is given. No Result: document 01 has one
+// numbered answer for each call, and the claims of `runs` (proofs/Demands.antt) read its number.
 #[derive(Clone, Copy)]
 pub struct Answer {
     pub number: u8,
@@ -21,14 +22,10 @@ pub struct Answer {
 fn event(tag: Tag, st: State) -> Answer
     ensures { result ≡ record { number = 0; reply = Silence; reason = Open; tag = fleeting st zeros tag } }
 {
-    let counters = tag.counters;
-    let originality = tag.originality;
     let next = Tag {
-        counters,
-        failed: tag.failed,
-        originality,
         state: st,
-        challenge: [0u8; 16],
+        challenge: [0; 16],
+        ..tag
     };
     Answer {
         number: 0,

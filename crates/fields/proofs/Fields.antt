@@ -3,9 +3,12 @@
 --   number-two, number-three    a number of two and of three bytes
 --   number-four                 a number of four bytes, by its two halves
 --   block-byte, block-long      a block by its bytes, of which there are 16
+--   block_of_bytes              16 bytes that are read one by one are the block
+--   block-read                  the bytes of a list that is the block
 --
 -- Assumes nothing.
-use mathlib.Core.Path.{◌≡◌, refl, ap, ◌∙◌}
+use mathlib.Core.Path.{◌≡◌, refl, sym, ap, ◌∙◌}
+use Rattle.std.proofs.lemmas.List.{ext_get_or}
 use mathlib.Core.List.{List}
 use Prim.Native.Nat.{ℕ, suc, ◌+◌, ◌*◌, ◌/◌, ◌%◌, ◌≤◌, ◌<◌}
 use native.Mathlib.Numerals.{add-one}
@@ -51,3 +54,11 @@ block-byte l n k h =
 pub block-long : (l : List ℕ) (n : ℕ) → length (block_of l n) ≡ 16
 unfolding block_of
 block-long l n = refl
+
+pub block_of_bytes : (l : List ℕ) (n : ℕ) (b : List ℕ) → length b ≡ 16 → ((k : ℕ) → k < 16 → get_or b k 0 ≡ get_or l (n + k) 0) → b ≡ block_of l n
+block_of_bytes l n b long h =
+    ext_get_or 0 b (block_of l n) (long ∙ sym (block-long l n))
+    (λ k lt. let lt' : k < 16 = omega arith in h k lt' ∙ sym (block-byte l n k lt'))
+
+pub block-read : (l : List ℕ) (n : ℕ) (b : List ℕ) → b ≡ block_of l n → (k : ℕ) → k < 16 → get_or b k 0 ≡ get_or l (n + k) 0
+block-read l n b e k h = ap (λ (x : List ℕ). get_or x k 0) e ∙ block-byte l n k h

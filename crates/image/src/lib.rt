@@ -4,15 +4,18 @@
 ghost use Rattle.std.specs.Prelude.{◌≡◌, true, length};
 ghost use Rattle.model.specs.Map.{mf0aes20, store_size};
 ghost use Rattle.model.specs.Image.{image_right, store_of, load_number, load, save_number, save};
+ghost use Rattle.numbers.specs.Refusals.{number_told};
 
 use image_judge::image_right;
 use image_read::{tag_of, zero_tag};
 use image_write::lay_image;
+use memory::record::possible;
+use memory::sizes::store_size;
 use model::{Map, Tag};
-use numbers::{first, number_if};
+use numbers::{Refusal, refuse_if};
 use sections::sizes;
 
-// What a load hands back: its number, and the tag, which is the zero record unless the number is 0.
+// What a load hands back: its number, and the tag, which is the zero record unless the number is 0. No Result: document 01 hands the zero record back too.
 #[derive(Clone, Copy)]
 pub struct Loading {
     pub number: u8,
@@ -39,16 +42,13 @@ pub fn mf0aes20() -> Map
 }
 
 // 10 comes before 12.
-#[tactic(auto, unfolding(model::specs::Image::load_number))]
-fn load_number(image: &[u8], store: &[u8]) -> u8
-    ensures { result ≡ load_number image.now store.now }
+#[tactic(auto, unfolding(model::specs::Image::load_number, model::specs::Numbers::first, model::specs::Numbers::number_if))]
+fn check_load(image: &[u8], store: &[u8]) -> Result<(), Refusal>
+    ensures { number_told result ≡ load_number image.now store.now }
 {
     let map = mf0aes20();
-    let size = memory::sizes::store_size(map);
-    first(
-        number_if(store.len() != size, 10),
-        number_if(!image_right(map, image), 12),
-    )
+    refuse_if(store.len() != store_size(map), Refusal::Misfit)?;
+    refuse_if(!image_right(map, image), Refusal::NoImage)
 }
 
 // The pages of an image, over the whole store.
@@ -69,38 +69,44 @@ pub fn load(image: &[u8], store: &mut [u8]) -> Loading
     ensures store_after { store.new ≡ (load image.now store.old).store }
 {
     let map = mf0aes20();
-    let number = load_number(image, &store[..]);
-    if number != 0 {
-        let tag = zero_tag();
-        return Loading { number, tag };
+    match check_load(image, &store[..]) {
+        Ok(()) => {
+            take_pages(map, image, store);
+            Loading {
+                number: 0,
+                tag: tag_of(map, image),
+            }
+        }
+        Err(why) => Loading {
+            number: why.number(),
+            tag: zero_tag(),
+        },
     }
-    take_pages(map, image, store);
-    let tag = tag_of(map, image);
-    Loading { number, tag }
 }
 
 // A wrong store, a short buffer, or a record that no tag can have.
-#[tactic(auto, unfolding(model::specs::Image::save_number))]
-fn save_number(tag: Tag, store: &[u8], room: usize) -> u8
-    ensures { result ≡ save_number tag store.now room }
+#[tactic(auto, unfolding(model::specs::Image::save_number, model::specs::Numbers::number_if))]
+fn check_save(tag: Tag, store: &[u8], room: usize) -> Result<(), Refusal>
+    ensures { number_told result ≡ save_number tag store.now room }
 {
     let map = mf0aes20();
-    let size = memory::sizes::store_size(map);
     let needed = sizes::image_size(map);
-    number_if(
-        (store.len() != size) | (room < needed) | !memory::record::possible(tag),
-        10,
+    refuse_if(
+        store.len() != store_size(map) || room < needed || !possible(tag),
+        Refusal::Misfit,
     )
 }
 
-// Answered 0, the image fills the first bytes of the buffer and no others.
+// Answered 0, the image fills the first bytes of the buffer and no others. The answer is document 01's number, which `SavesRefused` (`runs`) reads.
 pub fn save(tag: Tag, store: &[u8], image: &mut [u8]) -> u8
     ensures value { result ≡ (save tag store.now image.old).number }
     ensures image_after { image.new ≡ (save tag store.now image.old).image }
 {
-    let number = save_number(tag, store, image.len());
-    if number == 0 {
-        lay_image(mf0aes20(), tag, store, image);
+    match check_save(tag, store, image.len()) {
+        Ok(()) => {
+            lay_image(mf0aes20(), tag, store, image);
+            0
+        }
+        Err(why) => why.number(),
     }
-    number
 }

@@ -24,17 +24,11 @@ fn counters_of(map: Map, i: &[u8]) -> [u32; 3]
 pub fn tag_of(map: Map, i: &[u8]) -> Tag
     ensures { result ≡ tag_of map i.now }
 {
-    let counters = counters_of(map, i);
-    let failed = number2(i, sizes::failed_at(map) + 1);
-    let originality = block_of(i, sizes::key_at(map) + 1);
-    let state = State::Waiting;
-    let challenge = [0u8; 16];
     Tag {
-        counters,
-        failed,
-        originality,
-        state,
-        challenge,
+        counters: counters_of(map, i),
+        failed: number2(i, sizes::failed_at(map) + 1),
+        originality: block_of(i, sizes::key_at(map) + 1),
+        ..zero_tag()
     }
 }
 
@@ -42,14 +36,11 @@ pub fn tag_of(map: Map, i: &[u8]) -> Tag
 pub fn zero_tag() -> Tag
     ensures { result ≡ zero_tag }
 {
-    let counters = [0u32; 3];
-    let originality = [0u8; 16];
-    let challenge = [0u8; 16];
     Tag {
-        counters,
+        counters: [0; 3],
         failed: 0,
-        originality,
+        originality: [0; 16],
         state: State::Waiting,
-        challenge,
+        challenge: [0; 16],
     }
 }

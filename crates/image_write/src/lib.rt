@@ -20,44 +20,22 @@ fn lay_section(image: &mut [u8], at: usize, count: u8, bytes: &[u8])
     octets::lay(image, at + 1, bytes);
 }
 
+// The three low bytes of a number, low byte first. As in reply's lay_count: one line each, and a shared function would be a crate more for both.
+fn three_bytes(n: u32) -> [u8; 3]
+    ensures { result ≡ low_first 3 n }
+{
+    let [low, middle, high, _] = n.to_le_bytes();
+    [low, middle, high]
+}
+
 // Three counters of three bytes.
 #[tactic(auto, unfolding(sections::specs::Sections::counters_section))]
 fn lay_counters(image: &mut [u8], at: usize, counters: [u32; 3])
     requires { at < length image.old }
     ensures { image.new ≡ sets image.old at (counters_section counters) }
 {
-    let a = counters[0];
-    let b = counters[1];
-    let c = counters[2];
-    let bytes = [
-        (a % 256) as u8,
-        (a / 256 % 256) as u8,
-        (a / 256 / 256 % 256) as u8,
-        (b % 256) as u8,
-        (b / 256 % 256) as u8,
-        (b / 256 / 256 % 256) as u8,
-        (c % 256) as u8,
-        (c / 256 % 256) as u8,
-        (c / 256 / 256 % 256) as u8,
-    ];
-    lay_section(image, at, 3, &bytes);
-}
-
-// One failed count of two bytes.
-fn lay_failed(image: &mut [u8], at: usize, failed: u16)
-    requires { at < length image.old }
-    ensures { image.new ≡ sets image.old at (1 ∷ low_first 2 failed) }
-{
-    let bytes = [(failed % 256) as u8, (failed / 256 % 256) as u8];
-    lay_section(image, at, 1, &bytes);
-}
-
-// One originality key.
-fn lay_key(image: &mut [u8], at: usize, key: [u8; 16])
-    requires { at < length image.old }
-    ensures { image.new ≡ sets image.old at (1 ∷ key) }
-{
-    lay_section(image, at, 1, &key);
+    let bytes = counters.map(three_bytes);
+    lay_section(image, at, 3, bytes.as_flattened());
 }
 
 // The image: its pages, and the sections behind them.
@@ -66,11 +44,8 @@ pub fn lay_image(map: Map, tag: Tag, store: &[u8], image: &mut [u8])
     requires map_in_bounds { image_size map ≤ length image.old }
     ensures { image.new ≡ sets image.old 0 (image_of map tag store.now) }
 {
-    let counters = tag.counters;
-    let failed = tag.failed;
-    let key = tag.originality;
     lay_section(image, 0, map.pages, store);
-    lay_counters(image, sizes::counters_at(map), counters);
-    lay_failed(image, sizes::failed_at(map), failed);
-    lay_key(image, sizes::key_at(map), key);
+    lay_counters(image, sizes::counters_at(map), tag.counters);
+    lay_section(image, sizes::failed_at(map), 1, &tag.failed.to_le_bytes());
+    lay_section(image, sizes::key_at(map), 1, &tag.originality);
 }

@@ -2,18 +2,19 @@
 ghost use Rattle.std.specs.Prelude.{◌≡◌};
 ghost use Rattle.model.specs.Frame.{misfit, data4};
 
+use memory::pages::Pages;
 use memory::{record, sizes};
-use model::{Map, Quad, Tag};
+use model::{Quad, Tag};
 
 // A wrong store, reply buffer or random block, or a record that no tag can have. room is the reply buffer's length.
 #[tactic(auto, unfolding(model::specs::Frame::misfit))]
-pub fn misfit(map: Map, tag: Tag, s: &[u8], random: &[u8], room: usize) -> bool
-    ensures { result ≡ misfit map tag s.now random.now room }
+pub fn misfit(pages: &Pages, tag: Tag, random: &[u8], room: usize) -> bool
+    ensures { result ≡ misfit pages.now.map tag pages.now.bytes.now random.now room }
 {
-    !(s.len() == sizes::store_size(map))
-        | (room < sizes::reply_size(map))
-        | !(random.len() == 16)
-        | !record::possible(tag)
+    pages.bytes.len() != sizes::store_size(pages.map)
+        || room < sizes::reply_size(pages.map)
+        || random.len() != 16
+        || !record::possible(tag)
 }
 
 // The four bytes of a frame behind its code and its page or counter number.

@@ -1,42 +1,35 @@
--- Laws of keys and of comparing blocks, for the loops that compute them.
+-- Laws of blocks turned, and of comparing them, for the functions that do it.
 --
---   take_more         one more byte of a block copied
---   page_key-at        byte j of a page key
---   same_more         one more byte compared
---   same-all          all bytes compared
+--   turned            the first byte behind the others is the block rotated
+--   same_more         one more byte of each compared
+--   same-all          none is left of either
 --
 -- Assumes nothing.
-use mathlib.Core.Path.{◌≡◌, sym, ap, ◌∙◌}
+use mathlib.Core.Path.{◌≡◌, refl, sym, ap, ◌∙◌}
 use mathlib.Core.List.{List, [], ◌∷◌, ◌++◌}
 use mathlib.Core.Bool.{Bool, ◌&&◌, and-true, and_assoc}
-use Prim.Native.Nat.{ℕ, suc, ◌+◌, ◌-◌, ◌*◌, ◌/◌, ◌%◌, ◌≤◌, ◌<◌}
-use native.Mathlib.Numerals.{add-one}
+use Prim.Native.Nat.{ℕ}
 use native.Mathlib.Omega.{arith}
 use lib.Dec.{eqb}
-use lib.ListN.{length, get_or, take, drop, set, drop_of_length-le}
-use lib.Seq.{drop-cons, take-suc}
-use Rattle.octets.proofs.Stores.{take-store}
-use Rattle.fips197.proofs.State.{get_or-state}
-use Rattle.model.specs.Authentication.{page_key, same_bytes}
+use lib.ListN.{length, take, drop}
+use Rattle.fips197.specs.State.{at, state}
+use Rattle.fips197.proofs.State.{state-at}
+use Rattle.model.specs.Authentication.{rotated, same_bytes}
 
-pub take_more : (block whole : List ℕ) (j x : ℕ) → j < length block → j < length whole → x ≡ get_or whole j 0 → take j block ≡ take j whole
-    → take (j + 1) (set block j x) ≡ take (j + 1) whole
-take_more block whole j x hb hw e front =
-    take-store block j x hb ∙ (λ i. front i ++ (e i ∷ [])) ∙ sym (rw (add-one, take-suc whole j 0 hw))
+turned-state : (f : ℕ → ℕ → ℕ) → drop 1 (state f) ++ take 1 (state f) ≡ rotated (state f)
+unfolding rotated
+turned-state f = refl
 
-pub page_key-at : (s : List ℕ) (i j : ℕ) → j < 16 → get_or (page_key s i) j 0 ≡ get_or s (i + (15 - j)) 0
-unfolding page_key
-page_key-at s i j h =
-    let place : j % 4 + 4 * (j / 4) ≡ j = omega arith in
-    get_or-state (λ r c. get_or s (i + (15 - (r + 4 * c))) 0) j h ∙ ap (λ (k : ℕ). get_or s (i + (15 - k)) 0) place
+pub turned : (b : List ℕ) → length b ≡ 16 → drop 1 b ++ take 1 b ≡ rotated b
+turned b h = let e = state-at b h in sym (ap (λ (x : List ℕ). drop 1 x ++ take 1 x) e) ∙ turned-state (at b) ∙ ap rotated e
 
-pub same_more : (a b : List ℕ) (i : ℕ) (same : Bool) → i < length a → i < length b
-    → (same && eqb (get_or a i 0) (get_or b i 0)) && same_bytes (drop (i + 1) a) (drop (i + 1) b) ≡ same && same_bytes (drop i a) (drop i b)
+pub same_more : (a b xs ys : List ℕ) (x y : ℕ) (same : Bool) → a ≡ x ∷ xs → b ≡ y ∷ ys
+    → (same && eqb x y) && same_bytes xs ys ≡ same && same_bytes a b
 unfolding same_bytes
-same_more a b i same ha hb =
-    rw (add-one, drop-cons a i 0 ha, drop-cons b i 0 hb)
-    (and_assoc same (eqb (get_or a i 0) (get_or b i 0)) (same_bytes (drop (suc i) a) (drop (suc i) b)))
+same_more a b xs ys x y same ea eb = rw (ea, eb) (and_assoc same (eqb x y) (same_bytes xs ys))
 
-pub same-all : (a b : List ℕ) (i : ℕ) (same : Bool) → length a ≤ i → length b ≤ i → same && same_bytes (drop i a) (drop i b) ≡ same
+pub same-all : (a b : List ℕ) (same : Bool) → length a ≡ 0 → length b ≡ 0 → same && same_bytes a b ≡ same
 unfolding same_bytes
-same-all a b i same ha hb = rw (drop_of_length-le a ha, drop_of_length-le b hb) (and-true same)
+same-all [] [] same ea eb = and-true same
+same-all [] (y ∷ b) same ea eb = absurd (omega arith)
+same-all (x ∷ a) b same ea eb = absurd (omega arith)

@@ -8,7 +8,8 @@ ghost use Rattle.model.specs.Record.{zeros};
 ghost use Rattle.model.specs.Authentication.{page_key, key_of, rotated, same_bytes};
 
 use aes::TwoBlocks;
-use model::{Map, Tag};
+use memory::pages::Pages;
+use model::Tag;
 
 // The sixteen bytes from offset i on, last byte first.
 #[tactic(auto, unfolding(model::specs::Authentication::page_key))]
@@ -16,27 +17,23 @@ fn page_key(s: &[u8], i: usize) -> [u8; 16]
     requires { i < 65536 }
     ensures { result ≡ page_key s.now i }
 {
-    let mut key = [0u8; 16];
-    let mut j = 0;
-    while j < 16 {
-        key[j] = octets::at(s, i + (15 - j));
-        j += 1;
+    let mut key = [0; 16];
+    for (j, byte) in key.iter_mut().enumerate() {
+        *byte = octets::at(s, i + (15 - j));
     }
     key
 }
 
 // Key number k: DataProtKey and UIDRetrKey from their pages, the originality key from the record.
 #[tactic(auto, unfolding(model::specs::Authentication::key_of))]
-pub fn key_of(map: Map, tag: Tag, s: &[u8], k: u8) -> [u8; 16]
-    ensures { result ≡ key_of map tag s.now k }
+pub fn key_of(pages: &Pages, tag: Tag, k: u8) -> [u8; 16]
+    ensures { result ≡ key_of pages.now.map tag pages.now.bytes.now k }
 {
-    if k == 0 {
-        return page_key(s, 4 * (map.key0 as usize));
+    match k {
+        0 => page_key(pages.bytes, 4 * (pages.map.key0 as usize)),
+        1 => page_key(pages.bytes, 4 * (pages.map.key1 as usize)),
+        _ => tag.originality,
     }
-    if k == 1 {
-        return page_key(s, 4 * (map.key1 as usize));
-    }
-    tag.originality
 }
 
 // Sixteen lent bytes by value.
@@ -44,23 +41,16 @@ pub fn block_of(b: &[u8]) -> [u8; 16]
     requires { length b.now ≡ 16 }
     ensures { result ≡ b.now }
 {
-    let mut block = [0u8; 16];
-    let mut i = 0;
-    while i < 16 {
-        block[i] = b[i];
-        i += 1;
-    }
-    block
+    b.try_into().unwrap()
 }
 
 // A block rotated left by one byte.
 pub fn rotated(b: [u8; 16]) -> [u8; 16]
     ensures { result ≡ rotated b }
 {
-    [
-        b[1], b[2], b[3], b[4], b[5], b[6], b[7], b[8], b[9], b[10], b[11], b[12], b[13], b[14],
-        b[15], b[0],
-    ]
+    let mut turned = b;
+    turned.rotate_left(1);
+    turned
 }
 
 // The same sixteen bytes; every byte is compared, whatever the others are.
@@ -68,10 +58,8 @@ pub fn same_bytes(a: [u8; 16], b: [u8; 16]) -> bool
     ensures { result ≡ same_bytes a b }
 {
     let mut same = true;
-    let mut i = 0;
-    while i < 16 {
-        same = same & (a[i] == b[i]);
-        i += 1;
+    for (x, y) in a.iter().zip(&b) {
+        same &= x == y;
     }
     same
 }

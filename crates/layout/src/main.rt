@@ -4,10 +4,9 @@
 
 mod pages;
 mod places;
-mod report;
 
-fn main() {
+// Where a line can't be written there is nothing left to do.
+fn main(rt: HostRuntime) {
     let map = image::mf0aes20();
-    places::lines(map);
-    pages::lines(map);
+    let _ = places::print(&rt, map).and_then(|()| pages::print(&rt, map));
 }

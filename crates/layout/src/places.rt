@@ -1,37 +1,28 @@
 // The sections of an image: each line has the place of the section's count byte, how many bytes stand behind it, and the count byte that `save` writes.
-use crate::report::{line, line_of_three};
 use image_read::zero_tag;
 use model::Map;
 use sections::sizes::{counters_at, failed_at, image_size, key_at};
+use std::io;
 
-pub fn lines(map: Map) {
+pub fn print<R: Print>(rt: &R, map: Map) -> io::Result<()> {
     let image = saved();
-    line(b"image", image_size(map));
-    section(b"section pages", 0, counters_at(map), &image);
-    section(
-        b"section counters",
-        counters_at(map),
-        failed_at(map),
-        &image,
-    );
-    section(b"section failed", failed_at(map), key_at(map), &image);
-    section(b"section originality", key_at(map), image_size(map), &image);
+    println!(rt; "image {}", image_size(map))?;
+    let sections = [
+        ("pages", 0, counters_at(map)),
+        ("counters", counters_at(map), failed_at(map)),
+        ("failed", failed_at(map), key_at(map)),
+        ("originality", key_at(map), image_size(map)),
+    ];
+    for (name, at, next) in sections {
+        let size = next.saturating_sub(at + 1);
+        println!(rt; "section {name} {at} {size} {}", octets::at(&image, at))?;
+    }
+    Ok(())
 }
 
 // The image of a tag that is all zero.
 fn saved() -> [u8; 271] {
-    let store = [0u8; 240];
-    let mut image = [0u8; 271];
-    image::save(zero_tag(), &store, &mut image);
+    let mut image = [0; 271];
+    image::save(zero_tag(), &[0; 240], &mut image);
     image
-}
-
-fn section(name: &[u8], at: usize, next: usize, image: &[u8]) {
-    let count = octets::at(image, at);
-    line_of_three(name, at, between(at, next), count as usize);
-}
-
-// How many bytes lie between two places.
-fn between(at: usize, next: usize) -> usize {
-    if at < next { next - at - 1 } else { 0 }
 }

@@ -4,17 +4,19 @@
 ghost use Rattle.std.specs.Prelude.{◌≡◌, cond, ◌<◌, eqb};
 ghost use Rattle.model.specs.declared.Effect.TheVariants.{Keep, Failed};
 ghost use Rattle.model.specs.Authentication.{limit_reached, raised, lowered, challenge_number};
+ghost use Rattle.numbers.specs.Refusals.{number_told};
 
-use memory::settings;
-use model::{Effect, Map, Tag};
+use memory::pages::Pages;
+use model::{Effect, Tag};
+use numbers::{Refusal, refuse_if};
 
 // The failed count is at or above AUTH_LIM; 0 switches the limit off.
 #[tactic(auto, unfolding(model::specs::Authentication::limit_reached))]
-pub fn limit_reached(map: Map, tag: Tag, s: &[u8]) -> bool
-    ensures { result ≡ limit_reached map tag s.now }
+pub fn limit_reached(pages: &Pages, tag: Tag) -> bool
+    ensures { result ≡ limit_reached pages.now.map tag pages.now.bytes.now }
 {
-    let limit = settings::auth_limit(map, s);
-    !(limit == 0) & (limit <= tag.failed)
+    let limit = pages.auth_limit();
+    limit != 0 && limit <= tag.failed
 }
 
 // The failed count becomes count; a limit of 0 leaves it as it is.
@@ -30,31 +32,26 @@ fn counted(limit: u16, count: u16) -> Effect
 
 // The failed count after a false proof: one more. No count that a tag can have is near the end of 16 bits.
 #[tactic(auto, unfolding(model::specs::Authentication::raised))]
-pub fn raised(map: Map, tag: Tag, s: &[u8]) -> Effect
+pub fn raised(pages: &Pages, tag: Tag) -> Effect
     requires { tag.failed < 65535 }
-    ensures { result ≡ raised map tag s.now }
+    ensures { result ≡ raised pages.now.map tag pages.now.bytes.now }
 {
-    counted(settings::auth_limit(map, s), tag.failed + 1)
+    counted(pages.auth_limit(), tag.failed + 1)
 }
 
 // The failed count after a right proof: 16 less, and 0 at 16 or below.
 #[tactic(auto, unfolding(model::specs::Authentication::lowered))]
-pub fn lowered(map: Map, tag: Tag, s: &[u8]) -> Effect
-    ensures { result ≡ lowered map tag s.now }
+pub fn lowered(pages: &Pages, tag: Tag) -> Effect
+    ensures { result ≡ lowered pages.now.map tag pages.now.bytes.now }
 {
-    counted(
-        settings::auth_limit(map, s),
-        octets::minus16(tag.failed, 16),
-    )
+    counted(pages.auth_limit(), tag.failed.saturating_sub(16))
 }
 
 // Part 1 of AUTHENTICATE with key number k.
-#[tactic(auto, unfolding(model::specs::Authentication::challenge_number))]
-pub fn challenge_number(map: Map, tag: Tag, s: &[u8], k: u8) -> u8
-    ensures { result ≡ challenge_number map tag s.now k }
+#[tactic(auto, unfolding(model::specs::Authentication::challenge_number, model::specs::Numbers::first, model::specs::Numbers::number_if))]
+pub fn check_challenge(pages: &Pages, tag: Tag, k: u8) -> Result<(), Refusal>
+    ensures { number_told result ≡ challenge_number pages.now.map tag pages.now.bytes.now k }
 {
-    numbers::first(
-        numbers::number_if(2 < k, 5),
-        numbers::number_if(limit_reached(map, tag, s), 11),
-    )
+    refuse_if(2 < k, Refusal::Argument)?;
+    refuse_if(limit_reached(pages, tag), Refusal::LimitReached)
 }

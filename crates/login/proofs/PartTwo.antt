@@ -23,18 +23,23 @@ use Rattle.model.specs.declared.Say.TheVariants.{Block}
 use Rattle.model.specs.declared.Decision.{Decision}
 use Rattle.model.specs.declared.Effect.TheVariants.{Keep}
 use Rattle.model.specs.Record.{zeros, key_number}
-use Rattle.model.specs.Numbers.{number_if, first, refused}
+use Rattle.model.specs.Numbers.{number_if, first}
 use Rattle.model.specs.Authentication.{key_of, rotated, limit_reached, raised, lowered, proof_first, proof_second, same_bytes, proof_number, logged_in, proved}
 use Rattle.model.specs.Frame.{command_number, command_done, commanded}
 use Rattle.model.proofs.Stages.{commanded-done, proof-false, proof-limited}
+use Rattle.std.specs.Prelude.{Ok, Err}
+use Rattle.numbers.specs.declared.Refusal.TheVariants.{FalseProof, LimitReached}
+use Rattle.refusals.specs.Deciding.{decided}
 
 module _ (m : Map) (tag : Tag) (s f random : List ℕ) where
   limited-number : limit_reached m tag s ≡ true → command_number Proof m tag s f ≡ 11
   unfolding command_number proof_number first number_if
   limited-number h = rw h
 
-  pub proof-at-limit : limit_reached m tag s ≡ true → commanded Proof m tag s f random ≡ refused 11 Open Keep
-  proof-at-limit h = proof-limited m tag s f random (limited-number h)
+  pub proof-at-limit : limit_reached m tag s ≡ true
+      → decided tag (Err (record { why = LimitReached; reason = Open; effect = Keep })) ≡ commanded Proof m tag s f random
+  unfolding decided
+  proof-at-limit h = sym (proof-limited m tag s f random (limited-number h))
 
   -- a login, from the key and the reader's block
   abbrev pub granted_of : List ℕ → List ℕ → Decision
@@ -76,12 +81,15 @@ module _ (m : Map) (tag : Tag) (s f random : List ℕ) where
         same : same_bytes answer.second expected ≡ same_bytes (proof_second m tag s f) (rotated tag.challenge)
         same = λ i. same_bytes (second i) (turned i)
 
-        pub proof-refused : same_bytes answer.second expected ≡ false → commanded Proof m tag s f random ≡ refused 8 Open (raised m tag s)
-        proof-refused h = proof-false m tag s f random (false-number (sym same ∙ h))
+        pub proof-refused : same_bytes answer.second expected ≡ false
+            → decided tag (Err (record { why = FalseProof; reason = Open; effect = raised m tag s })) ≡ commanded Proof m tag s f random
+        unfolding decided
+        proof-refused h = sym (proof-false m tag s f random (false-number (sym same ∙ h)))
 
         done : granted_of key answer.first ≡ command_done Proof m tag s f random
         unfolding command_done proved
         done = λ i. granted_of (keyed i) (first_block i)
 
-        pub proof-granted : same_bytes answer.second expected ≡ true → granted_of key answer.first ≡ commanded Proof m tag s f random
+        pub proof-granted : same_bytes answer.second expected ≡ true → decided tag (Ok (granted_of key answer.first)) ≡ commanded Proof m tag s f random
+        unfolding decided
         proof-granted h = done ∙ sym (commanded-done Proof m tag s f random (true-number (sym same ∙ h)))

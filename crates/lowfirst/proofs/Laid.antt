@@ -1,33 +1,20 @@
--- A number's bytes, low byte first, laid one by one.
+-- A number's bytes as std's `to_le_bytes` gives them are those of `low_first`.
 --
---   lay-all     at first all are left
---   lay-one     of the bytes that are left, the next one is stored
---   lay-none    where none is left the list stays
+--   low_bytes       the low bytes of a number of 32 bits
 --
 -- Assumes nothing.
-use mathlib.Core.Path.{◌≡◌, ap, ◌∙◌}
-use mathlib.Core.List.{List}
-use Prim.Native.Nat.{ℕ, suc, ◌+◌, ◌-◌, ◌/◌, ◌%◌, ◌≤◌, ◌<◌}
-use native.Mathlib.Nat.{add-zero}
+use mathlib.Core.Path.{◌≡◌, refl}
+use Rattle.std.proofs.Math.Nat.{div-div-eq-div-mul}
+use Prim.Native.Nat.{ℕ, zero, suc, ◌≤◌}
 use native.Mathlib.Omega.{arith}
-use lib.ListN.{set}
-use lib.Seq.{sets}
+use lib.ListN.{take}
+use Rattle.std.specs.Int.{w32, to_le_bytes}
 use Rattle.model.specs.Counters.{low_first}
 
-pub lay-all : (l : List ℕ) (at count r : ℕ) → sets l (at + 0) (low_first (count - 0) r) ≡ sets l at (low_first count r)
-lay-all l at count r =
-    let all : count - 0 ≡ count = omega arith in
-    ap (λ (j : ℕ). sets l j (low_first (count - 0) r)) (add-zero at) ∙ ap (λ (k : ℕ). sets l at (low_first k r)) all
-
-pub lay-one : (l : List ℕ) (at count i r : ℕ) → i < count
-    → sets l (at + i) (low_first (count - i) r) ≡ sets (set l (at + i) (r % 256)) (at + (i + 1)) (low_first (count - (i + 1)) (r / 256))
-lay-one l at count i r h =
-    let left : count - i ≡ suc (count - (i + 1)) = omega arith in
-    let next : suc (at + i) ≡ at + (i + 1) = omega arith in
-    ap (λ (k : ℕ). sets l (at + i) (low_first k r)) left
-    ∙ ap (λ (j : ℕ). sets (set l (at + i) (r % 256)) j (low_first (count - (i + 1)) (r / 256))) next
-
-pub lay-none : (l : List ℕ) (at count i r : ℕ) → count ≤ i → sets l (at + i) (low_first (count - i) r) ≡ l
-lay-none l at count i r h =
-    let none : count - i ≡ 0 = omega arith in
-    ap (λ (k : ℕ). sets l (at + i) (low_first k r)) none
+pub low_bytes : (count n : ℕ) → count ≤ 4 → take count (to_le_bytes w32 n) ≡ low_first count n
+low_bytes zero n h = refl
+low_bytes (suc zero) n h = refl
+low_bytes (suc (suc zero)) n h = refl
+low_bytes (suc (suc (suc zero))) n h = simp div-div-eq-div-mul
+low_bytes (suc (suc (suc (suc zero)))) n h = simp div-div-eq-div-mul
+low_bytes (suc (suc (suc (suc (suc count))))) n h = absurd (omega arith)

@@ -9,7 +9,7 @@ pub const HIGHEST_COUNTER: u32 = 0xffffff;
 
 pub const HIGHEST_FAILED: u16 = 1023;
 
-// A number for each state; 5 is for every one that doesn't exist.
+// A number for each state, as the definitions compare states by; 5 is for every one that doesn't exist.
 pub fn state_number(st: State) -> u8
     ensures { result ≡ state_number st }
 {
@@ -26,39 +26,32 @@ pub fn state_number(st: State) -> u8
 pub fn is_waiting(st: State) -> bool
     ensures { result ≡ is_waiting st }
 {
-    state_number(st) == 0
+    matches!(st, State::Waiting)
 }
 
 pub fn is_active(st: State) -> bool
     ensures { result ≡ is_active st }
 {
-    state_number(st) == 1
+    matches!(st, State::Active)
 }
 
 pub fn is_authenticated(st: State) -> bool
     ensures { result ≡ is_authenticated st }
 {
-    state_number(st) == 3
+    matches!(st, State::Authenticated)
 }
 
 pub fn is_challenged(st: State) -> bool
     ensures { result ≡ is_challenged st }
 {
-    state_number(st) == 4
+    matches!(st, State::Challenged(_))
 }
 
-// The number of the key that was asked for, kept while CHALLENGED.
+// The number of the key that was asked for, kept while CHALLENGED, else 0 and no None: the definition `key_number` gives 0, and the C form's record holds it.
 pub fn key_number(st: State) -> u8
     ensures { result ≡ key_number st }
 {
-    match st {
-        State::Waiting => 0,
-        State::Active => 0,
-        State::Traceable => 0,
-        State::Authenticated => 0,
-        State::Challenged(k) => k,
-        State::Unknown(_) => 0,
-    }
+    if let State::Challenged(k) = st { k } else { 0 }
 }
 
 // The state exists, and so does its key number; only CHALLENGED has one.
@@ -66,7 +59,7 @@ pub fn key_number(st: State) -> u8
 pub fn exists(st: State) -> bool
     ensures { result ≡ exists st }
 {
-    (state_number(st) < 5) & (key_number(st) <= 2)
+    !matches!(st, State::Unknown(_)) && key_number(st) <= 2
 }
 
 // A record that a tag can have.
@@ -74,12 +67,10 @@ pub fn exists(st: State) -> bool
 pub fn possible(tag: Tag) -> bool
     ensures { result ≡ possible tag }
 {
-    let counters = tag.counters;
-    let failed = tag.failed;
-    let st = tag.state;
-    (counters[0] <= HIGHEST_COUNTER)
-        & (counters[1] <= HIGHEST_COUNTER)
-        & (counters[2] <= HIGHEST_COUNTER)
-        & (failed <= HIGHEST_FAILED)
-        & exists(st)
+    let [c0, c1, c2] = tag.counters;
+    c0 <= HIGHEST_COUNTER
+        && c1 <= HIGHEST_COUNTER
+        && c2 <= HIGHEST_COUNTER
+        && tag.failed <= HIGHEST_FAILED
+        && exists(tag.state)
 }

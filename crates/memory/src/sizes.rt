@@ -8,7 +8,7 @@ use model::Map;
 pub fn last_page(map: Map) -> u8
     ensures { result ≡ last_page map }
 {
-    octets::minus(map.pages, 1)
+    map.pages.saturating_sub(1)
 }
 
 // Bytes of a store.

@@ -1,14 +1,13 @@
 // MixColumns and its inverse on the columns of the state, for `rounds`: FIPS 197 sections 4.2.1, 5.1.3 and 5.3.3.
 #![tactic(auto)]
 
-ghost use Rattle.std.specs.Prelude.{◌≡◌};
+ghost use Rattle.std.specs.Prelude.{◌≡◌, [], ◌∷◌, get_or};
 ghost use Rattle.fips197.specs.Field.{xtime};
-ghost use Rattle.fips197.specs.State.{mix_columns, inv_mix_columns};
-ghost use Rattle.columns.specs.Words.{bytes_of, columns_of};
+ghost use Rattle.fips197.specs.State.{state, mix_columns, inv_mix_columns};
+ghost use Rattle.fips197.specs.KeyExpansion.{word_of};
 ghost use Rattle.mixing.specs.Words.{mix_word, inv_mix_word, multiples_of, multiples_by};
 
-use columns::state::Columns;
-use columns::words::Word;
+use std::array;
 
 // Multiplication by x in the field, FIPS 197 section 4.2.1.
 #[tactic(auto, unfolding(fips197::specs::Field::xtime))]
@@ -20,19 +19,21 @@ pub fn times_x(b: u8) -> u8
 
 // A column times {03}x^3 + {01}x^2 + {01}x + {02}, FIPS 197 section 5.1.3.
 #[tactic(auto, unfolding(fips197::specs::Field::product, fips197::specs::Field::product_of))]
-pub fn mix_word(u: Word) -> Word
-    ensures { bytes_of result ≡ mix_word (bytes_of u) }
+pub fn mix_word(u: [u8; 4]) -> [u8; 4]
+    ensures { result ≡ mix_word u }
 {
-    let a2 = times_x(u.a);
-    let b2 = times_x(u.b);
-    let c2 = times_x(u.c);
-    let d2 = times_x(u.d);
-    Word {
-        a: a2 ^ (b2 ^ u.b) ^ u.c ^ u.d,
-        b: u.a ^ b2 ^ (c2 ^ u.c) ^ u.d,
-        c: u.a ^ u.b ^ c2 ^ (d2 ^ u.d),
-        d: (a2 ^ u.a) ^ u.b ^ u.c ^ d2,
-    }
+    let [a, b, c, d] = u;
+    // tried: `u.map(times_x)` is slower
+    let a2 = times_x(a);
+    let b2 = times_x(b);
+    let c2 = times_x(c);
+    let d2 = times_x(d);
+    [
+        a2 ^ (b2 ^ b) ^ c ^ d,
+        a ^ b2 ^ (c2 ^ c) ^ d,
+        a ^ b ^ c2 ^ (d2 ^ d),
+        (a2 ^ a) ^ b ^ c ^ d2,
+    ]
 }
 
 // The multiples of a byte that the inverse of MixColumns is made of.
@@ -60,41 +61,55 @@ fn multiples_of(b: u8) -> Multiples
 }
 
 // A column times {0b}x^3 + {0d}x^2 + {09}x + {0e}, FIPS 197 section 5.3.3.
-pub fn inv_mix_word(u: Word) -> Word
-    ensures { bytes_of result ≡ inv_mix_word (bytes_of u) }
+pub fn inv_mix_word(u: [u8; 4]) -> [u8; 4]
+    ensures { result ≡ inv_mix_word u }
 {
-    let a = multiples_of(u.a);
-    let b = multiples_of(u.b);
-    let c = multiples_of(u.c);
-    let d = multiples_of(u.d);
-    Word {
-        a: a.by_14 ^ b.by_11 ^ c.by_13 ^ d.by_9,
-        b: a.by_9 ^ b.by_14 ^ c.by_11 ^ d.by_13,
-        c: a.by_13 ^ b.by_9 ^ c.by_14 ^ d.by_11,
-        d: a.by_11 ^ b.by_13 ^ c.by_9 ^ d.by_14,
-    }
+    let [a, b, c, d] = u.map(multiples_of);
+    [
+        a.by_14 ^ b.by_11 ^ c.by_13 ^ d.by_9,
+        a.by_9 ^ b.by_14 ^ c.by_11 ^ d.by_13,
+        a.by_13 ^ b.by_9 ^ c.by_14 ^ d.by_11,
+        a.by_11 ^ b.by_13 ^ c.by_9 ^ d.by_14,
+    ]
 }
 
-#[tactic(auto, unfolding(fips197::specs::State::mix_columns))]
-pub fn mix_columns(s: Columns) -> Columns
-    ensures { columns_of result ≡ mix_columns (columns_of s) }
+// The four columns of a state, written out: a `from_fn` within a `from_fn` is no plainer.
+fn columns_of(s: [u8; 16]) -> [[u8; 4]; 4]
+    ensures { result ≡ word_of s 0 ∷ word_of s 1 ∷ word_of s 2 ∷ word_of s 3 ∷ [] }
 {
-    Columns {
-        c0: mix_word(s.c0),
-        c1: mix_word(s.c1),
-        c2: mix_word(s.c2),
-        c3: mix_word(s.c3),
-    }
+    [
+        [s[0], s[1], s[2], s[3]],
+        [s[4], s[5], s[6], s[7]],
+        [s[8], s[9], s[10], s[11]],
+        [s[12], s[13], s[14], s[15]],
+    ]
+}
+
+// The state of four columns.
+fn state_of(columns: [[u8; 4]; 4]) -> [u8; 16]
+    ensures { result ≡ state (λ r c. get_or (get_or columns c []) r 0) }
+{
+    array::from_fn(|i| columns[i / 4][i % 4])
+}
+
+// Four calls here and in the inverse: `map`, or one function of both that takes the mixing, was tried, and is slower.
+#[tactic(auto, unfolding(fips197::specs::State::mix_columns))]
+pub fn mix_columns(s: [u8; 16]) -> [u8; 16]
+    ensures { result ≡ mix_columns s }
+{
+    let [a, b, c, d] = columns_of(s);
+    state_of([mix_word(a), mix_word(b), mix_word(c), mix_word(d)])
 }
 
 #[tactic(auto, unfolding(fips197::specs::State::inv_mix_columns))]
-pub fn inv_mix_columns(s: Columns) -> Columns
-    ensures { columns_of result ≡ inv_mix_columns (columns_of s) }
+pub fn inv_mix_columns(s: [u8; 16]) -> [u8; 16]
+    ensures { result ≡ inv_mix_columns s }
 {
-    Columns {
-        c0: inv_mix_word(s.c0),
-        c1: inv_mix_word(s.c1),
-        c2: inv_mix_word(s.c2),
-        c3: inv_mix_word(s.c3),
-    }
+    let [a, b, c, d] = columns_of(s);
+    state_of([
+        inv_mix_word(a),
+        inv_mix_word(b),
+        inv_mix_word(c),
+        inv_mix_word(d),
+    ])
 }

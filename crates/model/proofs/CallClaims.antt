@@ -11,6 +11,7 @@
 use mathlib.Core.Path.{◌≡◌, refl, sym, ap, ◌∙◌}
 use mathlib.Core.List.{List}
 use mathlib.Core.Bool.{true, false, true≢false}
+use Rattle.std.specs.Prelude.{Option, Some, None}
 use Prim.Native.Nat.{ℕ, zero, suc, ◌/◌, ◌%◌, ◌≤◌}
 use native.Mathlib.Decide.{ℕ_discrete}
 use native.Mathlib.Omega.{arith}
@@ -58,11 +59,16 @@ counter-bounded tag h n few =
     pick (suc (suc zero)) few c0 c1 c2 = c2
     pick (suc (suc (suc n))) few c0 c1 c2 = absurd (omega arith)
 
+-- the command that is told, and any other where none is
+command_or : Command → Option (Command × ℕ) → Command
+command_or other (Some (c, k)) = c
+command_or other None = other
+
 pub read-cnt-low-first : ReadCntLowFirst
-unfolding frame told command_done answered said_of
+unfolding frame told command_done answered said_of command_or
 read-cnt-low-first tag s f random room code z =
     let c = carried mf0aes20 tag s f random room (sym (decide-number mf0aes20 tag s f random room) ∙ z) in
-    let same : c.command ≡ ReadCnt = cc (c.known, ap told code) in
+    let same : c.command ≡ ReadCnt = ap (command_or ReadCnt) (sym c.known ∙ ap told code) in
     let v : ℕ = counter tag (get_or f 1 0) in
     let known = counter-known tag s f (rw same at c.own) in
     let low : v ≤ highest_counter = counter-bounded tag (fits-possible mf0aes20 tag s random room c.fits) (get_or f 1 0) known in

@@ -22,8 +22,7 @@ use Rattle.model.specs.declared.Command.{Command}
 use Rattle.model.specs.declared.Barred.{Barred}
 use Rattle.model.specs.declared.Effect.{Effect}
 use Rattle.model.specs.declared.Decision.{Decision}
-use Rattle.model.specs.declared.Told.{Told}
-use Rattle.model.specs.declared.Told.TheVariants.{Known, Nothing}
+use Rattle.std.specs.Prelude.{Option, Some, None}
 use Rattle.model.specs.Record.{is_waiting}
 use Rattle.model.specs.Numbers.{number_if, first, kept, refused}
 use Rattle.model.specs.Telling.{damaged, told, allowed, told_number}
@@ -46,7 +45,7 @@ number_if-zero false n h = refl
 pub record Carried (m : Map) (tag : Tag) (s f random : List ℕ) (room : ℕ) : Type 0 where
   pub command : Command
   pub size : ℕ
-  pub known : told (get_or f 0 0) ≡ Known command size
+  pub known : told (get_or f 0 0) ≡ Some (command, size)
   pub own : command_number command m tag s f ≡ 0
   pub permitted : allowed tag.state command ≡ true
   pub awake : is_waiting tag.state ≡ false
@@ -55,11 +54,11 @@ pub record Carried (m : Map) (tag : Tag) (s f random : List ℕ) (room : ℕ) : 
   pub decided : decide m tag s f random room ≡ command_done command m tag s f random
 
 module _ (m : Map) (tag : Tag) (s f random : List ℕ) (room : ℕ) where
-  by-told : (t : Told) → told (get_or f 0 0) ≡ t → told_number t tag.state (length f) ≡ 0 → told_command_number t m tag s f ≡ 0
+  by-told : (t : Option (Command × ℕ)) → told (get_or f 0 0) ≡ t → told_number t tag.state (length f) ≡ 0 → told_command_number t m tag s f ≡ 0
       → is_waiting tag.state ≡ false → misfit m tag s random room ≡ false → damaged f ≡ false
       → decide m tag s f random room ≡ told_done t m tag s f random → Carried m tag s f random room
   unfolding told_number
-  by-told (Known c k) e n own awake fits whole d = record {
+  by-told (Some (c, k)) e n own awake fits whole d = record {
     command = c;
     size = k;
     known = e;
@@ -70,7 +69,7 @@ module _ (m : Map) (tag : Tag) (s f random : List ℕ) (room : ℕ) where
     whole = whole;
     decided = d;
   }
-  by-told Nothing e n own awake fits whole d = absurd (omega arith)
+  by-told None e n own awake fits whole d = absurd (omega arith)
 
   pub carried : frame_number m tag s f random room ≡ 0 → Carried m tag s f random room
   unfolding earlier_number frame_number

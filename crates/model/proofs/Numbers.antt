@@ -24,8 +24,7 @@ use Rattle.model.specs.declared.Barred.{Barred}
 use Rattle.model.specs.declared.Barred.TheVariants.{Open, Auth0, RandomId, OwnLock, PairLock, KeyLock, ConfigLock}
 use Rattle.model.specs.declared.Command.{Command}
 use Rattle.model.specs.declared.Command.TheVariants.{Read, FastRead, Write, ReadCnt, IncrCnt, Authenticate, Proof, Halt}
-use Rattle.model.specs.declared.Told.{Told}
-use Rattle.model.specs.declared.Told.TheVariants.{Known, Nothing}
+use Rattle.std.specs.Prelude.{Option, Some, None}
 use Rattle.model.specs.declared.Effect.{Effect}
 use Rattle.model.specs.declared.Effect.TheVariants.{Keep}
 use Rattle.model.specs.declared.Decision.{Decision}
@@ -107,14 +106,14 @@ module _ (m : Map) (tag : Tag) (s f : List ℕ) (P : ℕ → Type 0) where
   numbers-of-command h Proof = limit-first (limit_reached m tag s) _ h.of0 h.of11 h.of8
   numbers-of-command h Halt = number_if-is P _ 5 h.of0 (λ _. h.of5)
 
-  of-told : P 0 → P 3 → P 4 → (t : Told) (st : State) (n : ℕ) → P (told_number t st n)
+  of-told : P 0 → P 3 → P 4 → (t : Option (Command × ℕ)) (st : State) (n : ℕ) → P (told_number t st n)
   unfolding told_number
-  of-told p0 p3 p4 (Known c k) st n = two-checks _ _ 3 4 p0 p3 p4
-  of-told p0 p3 p4 Nothing st n = p3
+  of-told p0 p3 p4 (Some (c, k)) st n = two-checks _ _ 3 4 p0 p3 p4
+  of-told p0 p3 p4 None st n = p3
 
-  of-told-command : OfCommand m tag s P → (t : Told) → P (told_command_number t m tag s f)
-  of-told-command h (Known c k) = numbers-of-command h c
-  of-told-command h Nothing = h.of0
+  of-told-command : OfCommand m tag s P → (t : Option (Command × ℕ)) → P (told_command_number t m tag s f)
+  of-told-command h (Some (c, k)) = numbers-of-command h c
+  of-told-command h None = h.of0
 
 -- the checks before a command's own
 pub numbers-of-earlier : (m : Map) (tag : Tag) (s f random : List ℕ) (room : ℕ) (P : ℕ → Type 0) → P 0
@@ -147,11 +146,11 @@ command-done Authenticate m tag s f random = (refl, refl)
 command-done Proof m tag s f random = (refl, refl)
 command-done Halt m tag s f random = (refl, refl)
 
-pub told-done : (t : Told) (m : Map) (tag : Tag) (s f random : List ℕ) → let d = told_done t m tag s f random in
+pub told-done : (t : Option (Command × ℕ)) (m : Map) (tag : Tag) (s f random : List ℕ) → let d = told_done t m tag s f random in
     (d.number ≡ 0) × (d.reason ≡ Open)
 unfolding halted
-told-done (Known c k) m tag s f random = command-done c m tag s f random
-told-done Nothing m tag s f random = (refl, refl)
+told-done (Some (c, k)) m tag s f random = command-done c m tag s f random
+told-done None m tag s f random = (refl, refl)
 
 not-done-number : (m : Map) (tag : Tag) (s : List ℕ) (n : ℕ) (b : Barred) → (not_done m tag s n b).number ≡ n
 unfolding not_done kept refused

@@ -18,8 +18,8 @@ use Rattle.model.specs.declared.Tag.{Tag}
 use Rattle.model.specs.declared.Barred.{Barred}
 use Rattle.model.specs.declared.Barred.TheVariants.{Open, Auth0, RandomId, OwnLock, PairLock, KeyLock, ConfigLock}
 use Rattle.model.specs.declared.Command.TheVariants.{Read, FastRead, Write, ReadCnt, IncrCnt, Authenticate, Proof, Halt}
-use Rattle.model.specs.declared.Told.{Told}
-use Rattle.model.specs.declared.Told.TheVariants.{Known, Nothing}
+use Rattle.std.specs.Prelude.{Option, Some, None}
+use Rattle.model.specs.declared.Command.{Command}
 use Rattle.model.specs.declared.Effect.{Effect}
 use Rattle.model.specs.declared.Decision.{Decision}
 use Rattle.model.specs.Map.{mf0aes20}
@@ -158,14 +158,14 @@ module _ (tag : Tag) (s f random : List ℕ) (room : ℕ) where
   rule-own e = rw e
 
   -- what is told decides all but the earlier checks
-  told-decided : (t : Told) → told (get_or f 0 0) ≡ t
+  told-decided : (t : Option (Command × ℕ)) → told (get_or f 0 0) ≡ t
       → decide mf0aes20 tag s f random room
       ≡ concluded (first early (told_command_number t mf0aes20 tag s f)) (reason_behind early (told_command_reason t mf0aes20 tag s f))
       mf0aes20 tag s (told_done t mf0aes20 tag s f random)
   unfolding frame_number frame_reason
   told-decided t e = decide-parts mf0aes20 tag s f random room ∙ rw e
 
-  told-number : (t : Told) → told (get_or f 0 0) ≡ t
+  told-number : (t : Option (Command × ℕ)) → told (get_or f 0 0) ≡ t
       → (decide mf0aes20 tag s f random room).number ≡ first early (told_command_number t mf0aes20 tag s f)
   unfolding frame_number
   told-number t e = decide-number mf0aes20 tag s f random room ∙ rw e
@@ -175,36 +175,36 @@ module _ (tag : Tag) (s f random : List ℕ) (room : ℕ) where
   page-open true e h = absurd (five-other early not_own (subst (λ (n : ℕ). (first early n ≡ 6) ⊎ (first early n ≡ 7)) (page-five e) h))
   page-open false e h = refl
 
-  write-told : get_or f 0 0 ≡ code_of Write → told (get_or f 0 0) ≡ Known Write 6
+  write-told : get_or f 0 0 ≡ code_of Write → told (get_or f 0 0) ≡ Some (Write, 6)
   unfolding told
   write-told code = rw code
 
   -- only a WRITE that is refused with 6 or 7 by its own check has a rule with a place
-  no_place : (t : Told) → told (get_or f 0 0) ≡ t
+  no_place : (t : Option (Command × ℕ)) → told (get_or f 0 0) ≡ t
       → (get_or f 0 0 ≡ code_of Write → ⊥)
       ⊎ ((first early (told_command_number t mf0aes20 tag s f) ≡ 6 → ⊥) × (first early (told_command_number t mf0aes20 tag s f) ≡ 7 → ⊥))
       → early ≡ 0 → barred_place (told_command_reason t mf0aes20 tag s f) ≡ 0
   unfolding command_reason command_number first
-  no_place (Known Write k) e (inl other) z = absurd (other (told-code (get_or f 0 0) Write k e))
-  no_place (Known Write k) e (inr other) z = by (page_bars mf0aes20 (get_or f 1 0)) refl
+  no_place (Some (Write, k)) e (inl other) z = absurd (other (told-code (get_or f 0 0) Write k e))
+  no_place (Some (Write, k)) e (inr other) z = by (page_bars mf0aes20 (get_or f 1 0)) refl
     where
       by : (t : Bool) → page_bars mf0aes20 (get_or f 1 0) ≡ t → barred_place rule ≡ 0
       by true p = ap barred_place (no-rule p)
       by false p = placed rule (λ h. other.0 (rw z (rule-own p ∙ h))) (λ h. other.1 (rw z (rule-own p ∙ h)))
-  no_place (Known Read k) e other z = refl
-  no_place (Known FastRead k) e other z = refl
-  no_place (Known ReadCnt k) e other z = refl
-  no_place (Known IncrCnt k) e other z = refl
-  no_place (Known Authenticate k) e other z = refl
-  no_place (Known Proof k) e other z = refl
-  no_place (Known Halt k) e other z = refl
-  no_place Nothing e other z = refl
+  no_place (Some (Read, k)) e other z = refl
+  no_place (Some (FastRead, k)) e other z = refl
+  no_place (Some (ReadCnt, k)) e other z = refl
+  no_place (Some (IncrCnt, k)) e other z = refl
+  no_place (Some (Authenticate, k)) e other z = refl
+  no_place (Some (Proof, k)) e other z = refl
+  no_place (Some (Halt, k)) e other z = refl
+  no_place None e other z = refl
 
 pub first-rule-told : FirstRuleTold
 unfolding frame command_reason command_number
 first-rule-told tag s f random room code h =
     let t = write-told tag s f random room code in
-    let number = told-number tag s f random room (Known Write 6) t in
+    let number = told-number tag s f random room (Some (Write, 6)) t in
     let r = rule tag s f random room in
     let six-or-seven = subst (λ (k : ℕ). (k ≡ 6) ⊎ (k ≡ 7)) number h in
     let page = page-open tag s f random room (page_bars mf0aes20 (get_or f 1 0)) refl six-or-seven in
@@ -213,7 +213,7 @@ first-rule-told tag s f random room code h =
     concluded-stopped mf0aes20 tag s (command_done Write mf0aes20 tag s f random) (early tag s f random room) r (not_own tag s f random room)
     (subst (λ (n : ℕ). (first (early tag s f random room) n ≡ 6) ⊎ (first (early tag s f random room) n ≡ 7)) same six-or-seven) in
     let why : (decide mf0aes20 tag s f random room).reason ≡ r =
-    ap (λ (d : Decision). d.reason) (told-decided tag s f random room (Known Write 6) t)
+    ap (λ (d : Decision). d.reason) (told-decided tag s f random room (Some (Write, 6)) t)
     ∙ (λ i. (concluded (first (early tag s f random room) (same i)) (reason_behind (early tag s f random room) r) mf0aes20 tag s (command_done Write mf0aes20 tag s f random)).reason)
     ∙ c.1.why in
     record {

@@ -3,7 +3,8 @@
 --   decide-misfit, decide-waiting, decide-damaged    numbers 10, 1 and 2
 --   decide-told-refused                              numbers 3 and 4
 --   decide-known                                     a known command that is allowed and has its length: what the command comes to
---   commanded-done, commanded-refused                a command whose own number is 0, and is not
+--   told-plain                                       and each of these leaves nothing behind but the end of the session
+--   commanded-done, commanded-not, commanded-refused   a command whose own number is 0, and is not
 --   proof-false, proof-limited                       part 2, whose 8 raises the count
 --
 -- Assumes nothing.
@@ -17,8 +18,7 @@ use Rattle.model.specs.declared.Tag.{Tag}
 use Rattle.model.specs.declared.State.{State}
 use Rattle.model.specs.declared.Command.{Command}
 use Rattle.model.specs.declared.Command.TheVariants.{Read, FastRead, Write, ReadCnt, IncrCnt, Authenticate, Proof, Halt}
-use Rattle.model.specs.declared.Told.{Told}
-use Rattle.model.specs.declared.Told.TheVariants.{Known, Nothing}
+use Rattle.std.specs.Prelude.{Option, Some, None}
 use Rattle.model.specs.declared.Barred.{Barred}
 use Rattle.model.specs.declared.Barred.TheVariants.{Open}
 use Rattle.model.specs.declared.Effect.TheVariants.{Keep}
@@ -36,10 +36,10 @@ abbrev Plain : Map → Tag → List ℕ → Barred → ℕ → Type 0
 Plain m tag s b n = not_done m tag s n b ≡ refused n b Keep
 
 module _ (m : Map) (tag : Tag) (s f : List ℕ) (b : Barred) where
-  told-plain : (t : Told) (st : State) (n : ℕ) → Plain m tag s b (told_number t st n)
+  pub told-plain : (t : Option (Command × ℕ)) (st : State) (n : ℕ) → Plain m tag s b (told_number t st n)
   unfolding told_number not_done
-  told-plain (Known c k) st n = two-checks m tag s f (Plain m tag s b) _ _ 3 4 refl refl refl
-  told-plain Nothing st n = refl
+  told-plain (Some (c, k)) st n = two-checks m tag s f (Plain m tag s b) _ _ 3 4 refl refl refl
+  told-plain None st n = refl
 
   -- the numbers of every command but part 2
   command-plain : (c : Command) → (c ≡ Proof → ⊥) → Plain m tag s b (command_number c m tag s f)
@@ -72,7 +72,7 @@ module _ (m : Map) (tag : Tag) (s f random : List ℕ) (room : ℕ) where
 
       module _ (whole : damaged f ≡ false) where
         -- what is left: the telling and the command
-        decide-rest : (t : Told) → told (get_or f 0 0) ≡ t
+        decide-rest : (t : Option (Command × ℕ)) → told (get_or f 0 0) ≡ t
             → decide m tag s f random room
             ≡ concluded (told_number t tag.state (length f)) Open m tag s (told_commanded t m tag s f random)
         unfolding decide earlier_number number_if first
@@ -85,9 +85,9 @@ module _ (m : Map) (tag : Tag) (s f random : List ℕ) (room : ℕ) where
             ∙ concluded-not (told_number (told (get_or f 0 0)) tag.state (length f)) Open m tag s _ h
             ∙ told-plain m tag s f Open (told (get_or f 0 0)) tag.state (length f)
 
-        pub decide-known : (c : Command) (k : ℕ) → told (get_or f 0 0) ≡ Known c k → told_number (Known c k) tag.state (length f) ≡ 0
+        pub decide-known : (c : Command) (k : ℕ) → told (get_or f 0 0) ≡ Some (c, k) → told_number (Some (c, k)) tag.state (length f) ≡ 0
             → decide m tag s f random room ≡ commanded c m tag s f random
-        decide-known c k e h = decide-rest (Known c k) e ∙ rw h
+        decide-known c k e h = decide-rest (Some (c, k)) e ∙ rw h
 
 -- ---- a command's own
 
@@ -96,7 +96,7 @@ pub commanded-done : (c : Command) (m : Map) (tag : Tag) (s f random : List ℕ)
 unfolding commanded
 commanded-done c m tag s f random h = rw h
 
-commanded-not : (c : Command) (m : Map) (tag : Tag) (s f random : List ℕ) → (command_number c m tag s f ≡ 0 → ⊥)
+pub commanded-not : (c : Command) (m : Map) (tag : Tag) (s f random : List ℕ) → (command_number c m tag s f ≡ 0 → ⊥)
     → commanded c m tag s f random ≡ not_done m tag s (command_number c m tag s f) (command_reason c m tag s f)
 unfolding commanded
 commanded-not c m tag s f random h =

@@ -15,8 +15,7 @@ use borrow.Author.Tests.{eqb-true}
 use lib.Dec.{eqb}
 use Rattle.model.specs.declared.Command.{Command}
 use Rattle.model.specs.declared.Command.TheVariants.{Read, FastRead, Write, ReadCnt, IncrCnt, Authenticate, Proof, Halt}
-use Rattle.model.specs.declared.Told.{Told}
-use Rattle.model.specs.declared.Told.TheVariants.{Known, Nothing}
+use Rattle.std.specs.Prelude.{Option, Some, None}
 use Rattle.model.specs.Map.{mf0aes20}
 use Rattle.model.specs.Record.{is_waiting}
 use Rattle.model.specs.Telling.{code_of, told}
@@ -32,11 +31,11 @@ use Rattle.model.proofs.Valid.{Valid}
 use Rattle.model.proofs.Sound.{fits-valid}
 
 -- what is told of the byte b is right
-abbrev ToldRight : ℕ → Told → Type 0
-ToldRight b (Known c k) = b ≡ code_of c
-ToldRight b Nothing = Unit {0}
+abbrev ToldRight : ℕ → Option (Command × ℕ) → Type 0
+ToldRight b (Some (c, k)) = b ≡ code_of c
+ToldRight b None = Unit {0}
 
-by-test : (b n : ℕ) (t u : Told) → (b ≡ n → ToldRight b t) → ToldRight b u → ToldRight b (cond (eqb b n) t u)
+by-test : (b n : ℕ) (t u : Option (Command × ℕ)) → (b ≡ n → ToldRight b t) → ToldRight b u → ToldRight b (cond (eqb b n) t u)
 by-test b n t u yes' no' = pick (eqb b n) refl
   where
     pick : (x : Bool) → eqb b n ≡ x → ToldRight b (cond x t u)
@@ -46,15 +45,15 @@ by-test b n t u yes' no' = pick (eqb b n) refl
 told-right : (b : ℕ) → ToldRight b (told b)
 unfolding told
 told-right b =
-    by-test b (code_of Read) (Known Read 2) _ (λ e. e)
-    (by-test b (code_of FastRead) (Known FastRead 3) _ (λ e. e)
-    (by-test b (code_of Write) (Known Write 6) _ (λ e. e)
-    (by-test b (code_of ReadCnt) (Known ReadCnt 2) _ (λ e. e)
-    (by-test b (code_of IncrCnt) (Known IncrCnt 6) _ (λ e. e)
-    (by-test b (code_of Authenticate) (Known Authenticate 2) _ (λ e. e)
-    (by-test b (code_of Proof) (Known Proof 33) _ (λ e. e) (by-test b (code_of Halt) (Known Halt 2) Nothing (λ e. e) tt)))))))
+    by-test b (code_of Read) (Some (Read, 2)) _ (λ e. e)
+    (by-test b (code_of FastRead) (Some (FastRead, 3)) _ (λ e. e)
+    (by-test b (code_of Write) (Some (Write, 6)) _ (λ e. e)
+    (by-test b (code_of ReadCnt) (Some (ReadCnt, 2)) _ (λ e. e)
+    (by-test b (code_of IncrCnt) (Some (IncrCnt, 6)) _ (λ e. e)
+    (by-test b (code_of Authenticate) (Some (Authenticate, 2)) _ (λ e. e)
+    (by-test b (code_of Proof) (Some (Proof, 33)) _ (λ e. e) (by-test b (code_of Halt) (Some (Halt, 2)) None (λ e. e) tt)))))))
 
-pub told-code : (b : ℕ) (c : Command) (k : ℕ) → told b ≡ Known c k → b ≡ code_of c
+pub told-code : (b : ℕ) (c : Command) (k : ℕ) → told b ≡ Some (c, k) → b ≡ code_of c
 told-code b c k h = subst (ToldRight b) h (told-right b)
 
 -- a frame's number in a run is the frame's

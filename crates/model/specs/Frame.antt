@@ -20,8 +20,7 @@ use Rattle.model.specs.declared.State.TheVariants.{Waiting}
 use Rattle.model.specs.declared.Quad.{Quad}
 use Rattle.model.specs.declared.Command.{Command}
 use Rattle.model.specs.declared.Command.TheVariants.{Read, FastRead, Write, ReadCnt, IncrCnt, Authenticate, Proof, Halt}
-use Rattle.model.specs.declared.Told.{Told}
-use Rattle.model.specs.declared.Told.TheVariants.{Known, Nothing}
+use Rattle.std.specs.Prelude.{Option, Some, None}
 use Rattle.model.specs.declared.Barred.{Barred}
 use Rattle.model.specs.declared.Barred.TheVariants.{Open}
 use Rattle.model.specs.declared.Effect.{Effect}
@@ -108,9 +107,9 @@ commanded c m tag s f random =
     concluded (command_number c m tag s f) (command_reason c m tag s f) m tag s (command_done c m tag s f random)
 
 -- the same for what the code tells; a code that tells nothing is refused before
-abbrev pub told_commanded : Told → Map → Tag → List ℕ → List ℕ → List ℕ → Decision
-told_commanded (Known c k) m tag s f random = commanded c m tag s f random
-told_commanded Nothing m tag s f random = halted
+abbrev pub told_commanded : Option (Command × ℕ) → Map → Tag → List ℕ → List ℕ → List ℕ → Decision
+told_commanded (Some (c, k)) m tag s f random = commanded c m tag s f random
+told_commanded None m tag s f random = halted
 
 -- the checks before a command's own: 10, 1, 2, 3 and 4
 unfoldable pub earlier_number : Map → Tag → List ℕ → List ℕ → List ℕ → ℕ → ℕ

@@ -11,8 +11,7 @@ use Rattle.crc.specs.CrcA.{crc_a}
 use Rattle.model.specs.declared.State.{State}
 use Rattle.model.specs.declared.Command.{Command}
 use Rattle.model.specs.declared.Command.TheVariants.{Read, FastRead, Write, ReadCnt, IncrCnt, Authenticate, Proof, Halt}
-use Rattle.model.specs.declared.Told.{Told}
-use Rattle.model.specs.declared.Told.TheVariants.{Known, Nothing}
+use Rattle.std.specs.Prelude.{Option, Some, None}
 use Rattle.model.specs.Map.{trailer, longest_frame}
 use Rattle.model.specs.Record.{is_challenged}
 use Rattle.model.specs.Numbers.{number_if, first}
@@ -35,20 +34,20 @@ code_of Authenticate = 0x1a
 code_of Proof = 0xaf
 code_of Halt = 0x50
 
-unfoldable pub told : ℕ → Told
+unfoldable pub told : ℕ → Option (Command × ℕ)
 told b =
-    cond (eqb b (code_of Read)) (Known Read 2)
-    (cond (eqb b (code_of FastRead)) (Known FastRead 3)
-    (cond (eqb b (code_of Write)) (Known Write 6)
-    (cond (eqb b (code_of ReadCnt)) (Known ReadCnt 2)
-    (cond (eqb b (code_of IncrCnt)) (Known IncrCnt 6)
-    (cond (eqb b (code_of Authenticate)) (Known Authenticate 2)
-    (cond (eqb b (code_of Proof)) (Known Proof 33)
-    (cond (eqb b (code_of Halt)) (Known Halt 2) Nothing)))))))
+    cond (eqb b (code_of Read)) (Some (Read, 2))
+    (cond (eqb b (code_of FastRead)) (Some (FastRead, 3))
+    (cond (eqb b (code_of Write)) (Some (Write, 6))
+    (cond (eqb b (code_of ReadCnt)) (Some (ReadCnt, 2))
+    (cond (eqb b (code_of IncrCnt)) (Some (IncrCnt, 6))
+    (cond (eqb b (code_of Authenticate)) (Some (Authenticate, 2))
+    (cond (eqb b (code_of Proof)) (Some (Proof, 33))
+    (cond (eqb b (code_of Halt)) (Some (Halt, 2)) None)))))))
 
 unfoldable pub allowed : State → Command → Bool
 allowed st c = cond (is_challenged st) (eqb (code_of c) (code_of Proof)) (not (eqb (code_of c) (code_of Proof)))
 
-unfoldable pub told_number : Told → State → ℕ → ℕ
-told_number (Known c k) st n = first (number_if (not (allowed st c)) 3) (number_if (not (eqb n (k + trailer))) 4)
-told_number Nothing st n = 3
+unfoldable pub told_number : Option (Command × ℕ) → State → ℕ → ℕ
+told_number (Some (c, k)) st n = first (number_if (not (allowed st c)) 3) (number_if (not (eqb n (k + trailer))) 4)
+told_number None st n = 3

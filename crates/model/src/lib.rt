@@ -9,7 +9,8 @@ pub struct Tag {
     pub counters: [u32; 3],
     pub failed: u16,
     pub originality: [u8; 16],
-    // fleeting: the state, and the random block of a challenge while CHALLENGED
+    // fleeting: the state, and the random block of a challenge while CHALLENGED, which stands beside the state: answers 1 and 10 hand any record back as it
+    // came (`kept`), and the record for C holds both
     pub state: State,
     pub challenge: [u8; 16],
 }
@@ -25,8 +26,8 @@ pub enum State {
     Unknown(u8),
 }
 
-// A reply: silence, a nibble, or a number of bytes that stand at the start of the reply buffer.
-#[derive(Clone, Copy)]
+// A reply: silence, a nibble, or a number of bytes that stand at the start of the reply buffer. Document 01 asks for this form, so silence is a case and no None.
+#[derive(Clone, Copy, PartialEq, Eq)]
 pub enum Reply {
     Silence,
     Nibble(u8),
@@ -48,27 +49,21 @@ pub struct Map {
     pub key1: u8,
 }
 
-// The commands of the base.
+// The commands of the base, each with its code byte (009 Table 20).
 #[derive(Clone, Copy)]
 pub enum Command {
-    Read,
-    FastRead,
-    Write,
-    ReadCnt,
-    IncrCnt,
-    Authenticate,
-    Proof,
-    Halt,
+    Read = 0x30,
+    FastRead = 0x3a,
+    Write = 0xa2,
+    ReadCnt = 0x39,
+    IncrCnt = 0xa5,
+    Authenticate = 0x1a,
+    Proof = 0xaf,
+    Halt = 0x50,
 }
 
-// What a code byte tells: a command with the length of its payload, the frame without its CRC_A; or no command.
-#[derive(Clone, Copy)]
-pub enum Told {
-    Known(Command, u8),
-    Nothing,
-}
-
-// The rule that stops a write, in document 02's order; Open where none does.
+// The rule that stops a write, in document 02's order; Open where none does. Its place in that order is its discriminant.
+// Open is a case and no None, since `RuleOrder`, `FirstRuleTold` and `NoOtherReason` (specs/ReasonClaims.antt) are stated with it.
 #[derive(Clone, Copy)]
 pub enum Barred {
     Open,
@@ -80,7 +75,7 @@ pub enum Barred {
     ConfigLock,
 }
 
-// Four bytes of a page, byte 0 first.
+// Four bytes of a page, byte 0 first. Named, and no array: the definitions of Writing.antt and Counters.antt are written with a, b, c and d.
 #[derive(Clone, Copy)]
 pub struct Quad {
     pub a: u8,
@@ -89,14 +84,15 @@ pub struct Quad {
     pub d: u8,
 }
 
-// A row of freeze masks: the bits that one block-lock bit freezes in the first and in the second lock byte.
+// A row of freeze masks: the bits that one block-lock bit freezes in the first and in the second lock byte. Named, as `freeze_rows` is written.
 #[derive(Clone, Copy)]
 pub struct Masks {
     pub first: u8,
     pub second: u8,
 }
 
-// What a frame stores: nothing, one page, one counter or the failed count. No frame stores two of them.
+// What a frame stores: nothing, one page, one counter or the failed count. No frame stores two of them. An Option around the three others would be no
+// plainer: each use would take it apart twice.
 #[derive(Clone, Copy)]
 pub enum Effect {
     Keep,
@@ -106,6 +102,7 @@ pub enum Effect {
 }
 
 // What a frame says, before the bytes are read out: the four pages of READ from one on, the pages from one to another, a counter, or a byte and a block.
+// Silence is a case, as in `Reply`.
 #[derive(Clone, Copy)]
 pub enum Say {
     Silence,
@@ -117,7 +114,8 @@ pub enum Say {
 }
 
 // What a frame comes to: its number, the rule that stopped a write, what it stores, what it says with the block for `Say::Block`, and the fleeting part
-// it leaves.
+// it leaves. The number is document 01's, 0 for carried out, and no Result: the claims of specs/ read it. The block is no part of `Say::Block`: `said_of` takes
+// it beside.
 #[derive(Clone, Copy)]
 pub struct Decision {
     pub number: u8,

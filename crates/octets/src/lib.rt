@@ -1,14 +1,14 @@
 // Access to lent bytes that no length can break: reading past the end gives 0, and storing there does nothing.
 #![tactic(auto)]
 
-ghost use Rattle.std.specs.Prelude.{◌≡◌, ◌+◌, ◌-◌, ◌*◌, ◌≤◌, length, get_or, set};
+ghost use Rattle.std.specs.Prelude.{◌≡◌, ◌+◌, ◌*◌, ◌≤◌, length, get_or, set};
 ghost use Rattle.std.proofs.lemmas.List.Edits.{sets};
 
 // Byte i of s, and 0 past its end.
 pub fn at(s: &[u8], i: usize) -> u8
     ensures { result ≡ get_or s.now i 0 }
 {
-    if i < s.len() { s[i] } else { 0 }
+    s.get(i).copied().unwrap_or(0)
 }
 
 // Byte k of a page of four bytes, and 0 past the end of s.
@@ -22,21 +22,7 @@ pub fn byte_of(s: &[u8], page: u8, k: u8) -> u8
 pub fn low_first(low: u8, high: u8) -> u16
     ensures { result ≡ low + 256 * high }
 {
-    (low as u16) + 256 * (high as u16)
-}
-
-// a - b, and 0 where b is larger: the subtraction of natural numbers.
-pub fn minus(a: u8, b: u8) -> u8
-    ensures { result ≡ a - b }
-{
-    if b <= a { a - b } else { 0 }
-}
-
-// The same for 16 bits.
-pub fn minus16(a: u16, b: u16) -> u16
-    ensures { result ≡ a - b }
-{
-    if b <= a { a - b } else { 0 }
+    u16::from_le_bytes([low, high])
 }
 
 // Byte i of s becomes b; past its end nothing is stored.
@@ -53,9 +39,7 @@ pub fn lay(s: &mut [u8], first: usize, bs: &[u8])
     requires { first ≤ length s.old }
     ensures { s.new ≡ sets s.old first bs.now }
 {
-    let mut i = 0;
-    while i < bs.len() {
-        put(s, first + i, bs[i]);
-        i += 1;
+    for (i, b) in bs.iter().enumerate() {
+        put(s, first + i, *b);
     }
 }

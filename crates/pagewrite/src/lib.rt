@@ -5,8 +5,23 @@ ghost use Rattle.std.specs.Prelude.{◌≡◌};
 ghost use Rattle.model.specs.Writing.{merged, keep_of, lock_opened, pair_lock_opened, opened_of, written};
 
 use freezing::{frozen_locks, frozen_pair_locks};
+use memory::pages::Pages;
 use model::{Map, Masks, Quad};
-use octets::byte_of;
+
+// Every bit of four bytes, and none.
+const ALL: Quad = Quad {
+    a: 0xff,
+    b: 0xff,
+    c: 0xff,
+    d: 0xff,
+};
+
+const NONE: Quad = Quad {
+    a: 0x00,
+    b: 0x00,
+    c: 0x00,
+    d: 0x00,
+};
 
 // A byte after a write: the old bits under keep, and the new bits under opened.
 #[tactic(auto, unfolding(model::specs::Writing::merged))]
@@ -21,35 +36,14 @@ pub fn merged(keep: u8, opened: u8, old: u8, new: u8) -> u8
 pub fn keep_of(map: Map, p: u8) -> Quad
     ensures { result ≡ keep_of map p }
 {
-    if (p == map.locks) | (p == map.otp) | (p == map.pairlocks) {
-        return Quad {
-            a: 0xff,
-            b: 0xff,
-            c: 0xff,
-            d: 0xff,
-        };
-    }
-    if p == map.cfg1 {
-        return Quad {
-            a: 0x40,
-            b: 0x00,
-            c: 0x00,
-            d: 0x00,
-        };
-    }
-    if p == map.keylocks {
-        return Quad {
-            a: 0xe0,
-            b: 0x00,
-            c: 0x00,
-            d: 0x00,
-        };
-    }
-    Quad {
-        a: 0x00,
-        b: 0x00,
-        c: 0x00,
-        d: 0x00,
+    if p == map.locks || p == map.otp || p == map.pairlocks {
+        ALL
+    } else if p == map.cfg1 {
+        Quad { a: 0x40, ..NONE }
+    } else if p == map.keylocks {
+        Quad { a: 0xe0, ..NONE }
+    } else {
+        NONE
     }
 }
 
@@ -65,13 +59,13 @@ fn lock_opened(f: Masks) -> Quad
     }
 }
 
-// Page 28h: lock bytes 2 and 3 likewise; reserved bits and the reserved byte take nothing.
+// Page 28h: lock bytes 2 and 3 likewise; reserved bits and the reserved byte take nothing. A function of its own, as its definition is.
 fn pair_lock_opened(f: Masks) -> Quad
     ensures { result ≡ pair_lock_opened f }
 {
     Quad {
         a: 0xff - f.first,
-        b: octets::minus(0x0f, f.second),
+        b: 0x0f_u8.saturating_sub(f.second),
         c: 0x3f,
         d: 0x00,
     }
@@ -79,34 +73,30 @@ fn pair_lock_opened(f: Masks) -> Quad
 
 // The bits of each data byte that count in a write to page p, by the block-lock bits as they are before the write.
 #[tactic(auto, unfolding(model::specs::Writing::opened_of))]
-pub fn opened_of(map: Map, s: &[u8], p: u8) -> Quad
-    ensures { result ≡ opened_of map s.now p }
+pub fn opened_of(pages: &Pages, p: u8) -> Quad
+    ensures { result ≡ opened_of pages.now.map pages.now.bytes.now p }
 {
+    let map = pages.map;
     if p == map.locks {
-        return lock_opened(frozen_locks(byte_of(s, map.locks, 2)));
-    }
-    if p == map.pairlocks {
-        return pair_lock_opened(frozen_pair_locks(byte_of(s, map.pairlocks, 2)));
-    }
-    Quad {
-        a: 0xff,
-        b: 0xff,
-        c: 0xff,
-        d: 0xff,
+        lock_opened(frozen_locks(pages.byte(p, 2)))
+    } else if p == map.pairlocks {
+        pair_lock_opened(frozen_pair_locks(pages.byte(p, 2)))
+    } else {
+        ALL
     }
 }
 
 // The four bytes of page p after a write of q.
 #[tactic(auto, unfolding(model::specs::Writing::written))]
-pub fn written(map: Map, s: &[u8], p: u8, q: Quad) -> Quad
-    ensures { result ≡ written map s.now p q }
+pub fn written(pages: &Pages, p: u8, q: Quad) -> Quad
+    ensures { result ≡ written pages.now.map pages.now.bytes.now p q }
 {
-    let keep = keep_of(map, p);
-    let opened = opened_of(map, s, p);
+    let keep = keep_of(pages.map, p);
+    let opened = opened_of(pages, p);
     Quad {
-        a: merged(keep.a, opened.a, byte_of(s, p, 0), q.a),
-        b: merged(keep.b, opened.b, byte_of(s, p, 1), q.b),
-        c: merged(keep.c, opened.c, byte_of(s, p, 2), q.c),
-        d: merged(keep.d, opened.d, byte_of(s, p, 3), q.d),
+        a: merged(keep.a, opened.a, pages.byte(p, 0), q.a),
+        b: merged(keep.b, opened.b, pages.byte(p, 1), q.b),
+        c: merged(keep.c, opened.c, pages.byte(p, 2), q.c),
+        d: merged(keep.d, opened.d, pages.byte(p, 3), q.d),
     }
 }

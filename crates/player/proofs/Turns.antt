@@ -7,8 +7,7 @@
 -- Assumes nothing.
 use mathlib.Core.Path.{◌≡◌, refl, sym, ap, ◌∙◌}
 use mathlib.Core.List.{List}
-use mathlib.Core.Bool.{Bool, true, false, cond}
-use Prim.Native.Nat.{ℕ, ◌-◌, ◌/◌, ◌≤◌}
+use Prim.Native.Nat.{ℕ, ◌-◌, ◌≤◌}
 use native.Mathlib.Omega.{arith}
 use lib.ListN.{length, take}
 use lib.Seq.{sets, take-take}
@@ -21,11 +20,11 @@ use Rattle.model.specs.Frame.{Said, silence, nibble, bytes, frame, reply_of, lai
 use Rattle.model.specs.Calls.{step}
 use Rattle.events.specs.declared.Answer.{Answer}
 use Rattle.runs.proofs.Heard.{in_buffer, said_fits}
-use Rattle.script.specs.declared.line.Line.{Line}
-use Rattle.script.specs.declared.line.Line.TheVariants.{Power, Select, Frame, Bad}
-use Rattle.script.specs.Line.{only, frame_right, line_of, frame_bytes}
+use Rattle.std.specs.Prelude.{Some}
+use Rattle.script.specs.declared.line.Line.TheVariants.{Frame}
+use Rattle.script.specs.Line.{line_of, frame_bytes}
 use Rattle.answers.specs.Answer.{answer_text}
-use Rattle.player.specs.Play.{data_of, heard_data, random_of, Turn, turn_of}
+use Rattle.player.specs.Play.{data_of, heard_data, random_of, good_turn, turn_of}
 use Rattle.script.proofs.Frames.{frame-long}
 
 pub data-heard : (buffer : List ℕ) (x : Said) → in_buffer x ≤ length buffer → heard_data (reply_of x) (laid_over buffer x) ≡ data_of x
@@ -39,46 +38,23 @@ least : reply_size mf0aes20 ≡ 242
 unfolding mf0aes20
 least = refl
 
--- what a caller has of an answer and its buffers, as parts of a turn
-pub record Back (a : Answer) (reply' s' : List ℕ) (t : Turn) : Type 0 where
-  pub tag : a.tag ≡ t.box.tag
-  pub store : s' ≡ t.box.store
-  pub text : answer_text a.number (barred_place a.reason) (heard_data a.reply reply') ≡ t.text
-
-pub sent-turn : (tag : Tag) (s line : List ℕ) (n count : ℕ) (f random reply s' reply' : List ℕ) (a : Answer)
+pub sent-turn : (tag : Tag) (s line : List ℕ) (n count : ℕ) (f random reply s' reply' text : List ℕ) (a : Answer)
     → f ≡ with_crc (frame_bytes line n) → random ≡ random_of count → length reply ≡ 242 → let o = frame tag s f random (length reply) in
     a.number ≡ o.number → a.reply ≡ reply_of o.said → a.reason ≡ o.reason → a.tag ≡ o.tag → s' ≡ o.store → reply' ≡ laid_over reply o.said
-    → Back a reply' s' (turn_of (Frame n) (record { tag = tag; store = s }) count line)
+    → text ≡ answer_text a.number (barred_place a.reason) (heard_data a.reply reply')
+    → turn_of (Some (Frame n)) (record { tag = tag; store = s }) count line ≡ good_turn text a.tag s'
 unfolding step
-sent-turn tag s line n count f random reply s' reply' a ef er el hn hr hw ht hs hb =
+sent-turn tag s line n count f random reply s' reply' text a ef er el hn hr hw ht hs hb hx =
     let o = frame tag s f random (length reply) in
     let asked : o ≡ frame tag s (with_crc (frame_bytes line n)) (random_of count) (reply_size mf0aes20) =
     λ i. frame tag s (ef i) (er i) ((el ∙ sym least) i) in
     let said = (λ i. heard_data (hr i) (hb i)) ∙ data-heard reply o.said (said_fits tag s f random (length reply)) in
-    record {
-      tag = ht ∙ (λ i. (asked i).tag);
-      store = hs ∙ (λ i. (asked i).store);
-      text =
-          (λ i. answer_text (hn i) (barred_place (hw i)) (said i))
-          ∙ (λ i. answer_text (asked i).number (barred_place (asked i).reason) (data_of (asked i).said));
-    }
+    let told =
+    hx
+    ∙ (λ i. answer_text (hn i) (barred_place (hw i)) (said i))
+    ∙ (λ i. answer_text (asked i).number (barred_place (asked i).reason) (data_of (asked i).said)) in
+    sym (λ i. good_turn (told i) ((ht ∙ (λ j. (asked j).tag)) i) ((hs ∙ (λ j. (asked j).store)) i))
 
--- how many bytes a line's frame has
-abbrev bytes_of : Line → ℕ
-bytes_of Power = 0
-bytes_of Select = 0
-bytes_of (Frame n) = n
-bytes_of Bad = 0
-
-by_tests : (a b c : Bool) (k : ℕ) → (c ≡ true → k ≤ 126) → bytes_of (cond a Power (cond b Select (cond c (Frame (k / 2 - 1)) Bad))) ≤ 62
-by_tests true b c k h = omega arith
-by_tests false true c k h = omega arith
-by_tests false false true k h = let long = h refl in omega arith
-by_tests false false false k h = omega arith
-
-at_most : (l : List ℕ) → bytes_of (line_of l) ≤ 62
+pub frame-short : (l : List ℕ) (n : ℕ) → line_of l ≡ Some (Frame n) → n ≤ 62
 unfolding line_of
-at_most l = by_tests (only l 80) (only l 83) (frame_right l) (length l) (λ e. (frame-long l e).1)
-
-pub frame-short : (l : List ℕ) (n : ℕ) → line_of l ≡ Frame n → n ≤ 62
-frame-short l n e = omega (arith, at_most l, ap bytes_of e)
+frame-short l n e = let long = frame-long l in grind arith

@@ -3,73 +3,51 @@
 // A text has four parts with `|` between them: a name, the changes of the image that is loaded, lines with `;` between them, and the changes of the
 // image that is saved. A line is a call, in fields with `,` between them: its name; `P` for power, `S` for select, or the digits of a frame; the
 // number it is to answer; the reply; and the random block, which may be left out where the frame uses none.
-ghost use Rattle.std.specs.Prelude.{◌≤◌, length};
-
+use comparing::answer::{SIZE, Told, UNWRITTEN};
 use comparing::{answer, file};
 use events::Answer;
-use model::{Reply, Tag};
+use model::Tag;
 use reports::report::STDOUT_FILENO;
 use reports::{digits, parts};
-use text::lines::mark_from;
 
 fn field(line: &[u8], n: usize) -> &[u8] {
     parts::part(line, b',', n)
 }
 
-// The frame of a line is sent; its reply lies behind the head of the answer.
-fn sent(tag: Tag, store: &mut [u8], line: &[u8], answer: &mut [u8]) -> Answer
-    requires { 3 ≤ length answer.old }
-{
-    let mut frame = [0u8; 64];
+// The frame of a line is sent. A count stands beside the frame's buffer, as `reports::digits::lay` says.
+fn sent(tag: Tag, store: &mut [u8], line: &[u8], buffer: &mut [u8; SIZE]) -> Answer {
+    let mut frame = [0; 64];
     let n = digits::lay(field(line, 1), 0, &mut frame);
-    let random = digits::block(field(line, 4), 0);
-    tag::frame(
-        tag,
-        store,
-        &frame[..n],
-        &random,
-        &mut answer[answer::HEAD..],
-    )
+    let random: [u8; 16] = digits::octets_of(field(line, 4), 0);
+    tag::frame(tag, store, &frame[..n], &random, buffer)
 }
 
 // The call of a line is made.
-fn called(tag: Tag, store: &mut [u8], line: &[u8], answer: &mut [u8]) -> Answer
-    requires { 3 ≤ length answer.old }
-{
-    let code = octets::at(field(line, 1), 0);
-    if code == b'P' {
-        return tag::power(tag);
+fn called(tag: Tag, store: &mut [u8], line: &[u8], buffer: &mut [u8; SIZE]) -> Answer {
+    match field(line, 1) {
+        b"P" => tag::power(tag),
+        b"S" => tag::select(tag),
+        _ => sent(tag, store, line, buffer),
     }
-    if code == b'S' {
-        return tag::select(tag);
-    }
-    sent(tag, store, line, answer)
-}
-
-// What a call answered, against what its line says.
-fn compared(name: &[u8], line: &[u8], number: u8, reply: Reply, got: &mut [u8])
-    requires { 3 ≤ length got.old }
-{
-    answer::lay_head(got, number, reply);
-    let mut expected = [answer::UNWRITTEN; answer::SIZE];
-    answer::lay(&mut expected, field(line, 2), field(line, 3));
-    io::write_all(STDOUT_FILENO, name);
-    answer::line(field(line, 0), got, &expected);
 }
 
 // The lines one after the other.
 fn played(name: &[u8], lines: &[u8], tag: Tag, store: &mut [u8]) -> Tag {
     let mut now = tag;
-    let mut at = 0;
-    while at < lines.len() {
-        let e = mark_from(lines, b';', at);
-        let line = &lines[at..e];
-        let mut answer = [answer::UNWRITTEN; answer::SIZE];
-        let got = called(now, store, line, &mut answer);
-        let reply = got.reply;
-        compared(name, line, got.number, reply, &mut answer);
+    for line in lines.split(|b| *b == b';') {
+        let mut buffer = [UNWRITTEN; SIZE];
+        let got = called(now, store, line, &mut buffer);
+        io::write_all(STDOUT_FILENO, name);
+        answer::line(
+            field(line, 0),
+            &Told {
+                number: got.number,
+                reply: got.reply,
+                buffer,
+            },
+            &Told::of_texts(field(line, 2), field(line, 3)),
+        );
         now = got.tag;
-        at = parts::past(lines, e);
     }
     now
 }
@@ -77,7 +55,7 @@ fn played(name: &[u8], lines: &[u8], tag: Tag, store: &mut [u8]) -> Tag {
 // A session from the loading of an image to its saving.
 pub fn session(image: &[u8], text: &[u8]) {
     let name = parts::part(text, b'|', 0);
-    let mut store = [0u8; 240];
+    let mut store = [0; 240];
     let loaded = file::loaded(name, image, parts::part(text, b'|', 1), &mut store);
     let left = played(name, parts::part(text, b'|', 2), loaded, &mut store);
     file::saved(name, image, parts::part(text, b'|', 3), left, &store);

@@ -1,135 +1,99 @@
 // How far a script is played, and what a line does to it. Text is gathered in a buffer of 65,536 bytes.
+// It is written by `io`: std prints through a handle, and `input::play_input` may ask its caller for no more than `Input`.
 #![tactic(auto)]
 
-ghost use Rattle.std.specs.Prelude.{◌≡◌, ◌≤◌, ◌<◌, length};
+ghost use Rattle.std.specs.Prelude.{◌≡◌, []};
 ghost use Rattle.player.specs.Play.{next_count, turn};
 
+use answers::answer::Text;
+use arrayvec::ArrayVec;
 use model::Tag;
 
-// Where the answers are written: standard output.
+// Where the answers are written: standard output. `reports::report` has the same number, but is for the programs that compare.
 const STDOUT_FILENO: i32 = 1;
 
-// The record; the lines played so far; the bytes held of a line that is not yet whole; the bytes of text gathered; whether to go on.
+// Why a script ends before its input does: at a bad line, or where an answer can't be written or the input can't be read.
 #[derive(Clone, Copy)]
+pub enum Over {
+    BadLine,
+    Unwritten,
+    Unread,
+}
+
+// The record, the lines played so far, the text of the last of them, and the text gathered of all that is not yet written.
+// What stays of the record and the count is said by each method, since each keeps something else.
+#[derive(Drop)]
 pub struct Progress {
     pub tag: Tag,
     pub count: u64,
-    pub held: usize,
-    pub at: usize,
-    pub on: bool,
+    line: Text,
+    text: ArrayVec<u8, 65536>,
 }
 
-// The text of a line has at most 490 bytes.
-const ROOM: usize = 65046;
-
-pub fn beginning(tag: Tag) -> Progress
-    ensures at_value { result.at ≡ 0 }
-    ensures held_value { result.held ≡ 0 }
-{
-    Progress {
-        tag,
-        count: 0,
-        held: 0,
-        at: 0,
-        on: true,
+impl Progress {
+    pub fn new(tag: Tag) -> Progress
+        ensures tag_value { result.tag ≡ tag }
+        ensures count_value { result.count ≡ 0 }
+        ensures text_value { result.text.items ≡ [] }
+    {
+        Progress {
+            tag,
+            count: 0,
+            line: ArrayVec::new(),
+            text: ArrayVec::new(),
+        }
     }
-}
 
-// The same with another count of bytes held and of text gathered, going on or not.
-pub fn moved(p: Progress, held: usize, at: usize, on: bool) -> Progress
-    ensures tag_value { result.tag ≡ p.tag }
-    ensures count_value { result.count ≡ p.count }
-    ensures held_value { result.held ≡ held }
-    ensures at_value { result.at ≡ at }
-{
-    let tag = p.tag;
-    Progress {
-        tag,
-        count: p.count,
-        held,
-        at,
-        on,
+    // What was gathered is written. A write that fails ends the script, so that no answer is missing before another.
+    pub fn write(&mut self) -> Result<(), Over>
+        ensures tag_value { self.new.tag ≡ self.old.tag }
+        ensures count_value { self.new.count ≡ self.old.count }
+        ensures text_after { self.new.text.items ≡ [] }
+    {
+        let done = io::write_all(STDOUT_FILENO, &self.text);
+        self.text.clear();
+        if done { Ok(()) } else { Err(Over::Unwritten) }
     }
-}
 
-// Writes the first bytes of a buffer; false where that failed.
-fn write(out: &[u8], n: usize) -> bool
-    requires { n ≤ length out.now }
-{
-    io::write_all(STDOUT_FILENO, &out[..n])
-}
-
-// What was gathered is written. A write that fails ends the script, so that no answer is missing before another.
-pub fn written(p: Progress, out: &[u8]) -> Progress
-    requires { p.at ≤ length out.now }
-    ensures tag_value { result.tag ≡ p.tag }
-    ensures count_value { result.count ≡ p.count }
-    ensures held_value { result.held ≡ p.held }
-    ensures at_value { result.at ≡ 0 }
-{
-    if !p.on {
-        return moved(p, p.held, 0, false);
+    // The text of the last line is put behind what is gathered, which is written where it leaves no room.
+    fn gather(&mut self) -> Result<(), Over>
+        ensures tag_value { self.new.tag ≡ self.old.tag }
+        ensures count_value { self.new.count ≡ self.old.count }
+    {
+        if self.text.remaining_capacity() < self.line.len() {
+            self.write()?;
+        }
+        self.text
+            .try_extend_from_slice(self.line.as_slice())
+            .unwrap();
+        Ok(())
     }
-    let on = write(out, p.at);
-    moved(p, p.held, 0, on)
-}
 
-// There is room for the text of a line behind what is gathered, which is written where it leaves none.
-fn with_room(p: Progress, out: &[u8]) -> Progress
-    requires { p.at ≤ length out.now }
-    ensures tag_value { result.tag ≡ p.tag }
-    ensures count_value { result.count ≡ p.count }
-    ensures at_bound { result.at ≤ 65046 }
-{
-    if p.at <= ROOM {
-        return p;
+    // The fixed text and the number of a line that is none of the three; what was gathered comes before it.
+    fn bad_line(&mut self) -> Result<(), Over>
+        ensures tag_value { self.new.tag ≡ self.old.tag }
+        ensures count_value { self.new.count ≡ self.old.count }
+    {
+        self.write()?;
+        io::write_all(STDOUT_FILENO, b"bad line ");
+        io::print_decimal(STDOUT_FILENO, self.count);
+        io::write_all(STDOUT_FILENO, b"\n");
+        Err(Over::BadLine)
     }
-    written(p, out)
-}
 
-// The fixed text and the number of a line that is none of the three; what was gathered comes before it.
-fn bad_line(out: &[u8], at: usize, count: u64)
-    requires { at ≤ length out.now }
-{
-    if !write(out, at) {
-        return;
-    }
-    io::write_all(STDOUT_FILENO, b"bad line ");
-    io::print_decimal(STDOUT_FILENO, count);
-    io::write_all(STDOUT_FILENO, b"\n");
-}
-
-// A whole line is played. A bad one ends the script.
-pub fn play_line(p: Progress, store: &mut [u8], line: &[u8], out: &mut [u8]) -> Progress
-    requires at_bound { p.at ≤ 65536 }
-    requires out_len { length out.old ≡ 65536 }
-    ensures at_bound_2 { result.at ≤ 65536 }
-    ensures held_value { result.held ≡ 0 }
-    ensures count_value { result.count ≡ next_count p.count }
-    ensures tag_value { result.tag ≡ (turn (record { tag = p.tag; store = store.old }) (next_count p.count) line.now).box.tag }
-    ensures store_after { store.new ≡ (turn (record { tag = p.tag; store = store.old }) (next_count p.count) line.now).box.store }
-{
-    let now = with_room(p, out);
-    let tag = now.tag;
-    let at = now.at;
-    let count = player::next_count(now.count);
-    let turn = player::play(tag, store, line, count, &mut out[at..]);
-    let next = turn.tag;
-    if turn.bad {
-        bad_line(out, at, count);
-        return Progress {
-            tag: next,
-            count,
-            held: 0,
-            at: 0,
-            on: false,
-        };
-    }
-    Progress {
-        tag: next,
-        count,
-        held: 0,
-        at: at + turn.end,
-        on: now.on,
+    // A whole line is played. A bad one ends the script.
+    pub fn play_line(&mut self, store: &mut [u8], line: &[u8]) -> Result<(), Over>
+        ensures count_value { self.new.count ≡ next_count self.old.count }
+        ensures tag_value { self.new.tag ≡ (turn (record { tag = self.old.tag; store = store.old }) (next_count self.old.count) line.now).box.tag }
+        ensures store_after { store.new ≡ (turn (record { tag = self.old.tag; store = store.old }) (next_count self.old.count) line.now).box.store }
+    {
+        self.count = player::next_count(self.count);
+        match player::play(self.tag, store, line, self.count, &mut self.line) {
+            Some(tag) => {
+                self.tag = tag;
+                self.gather()
+            }
+            None => self.bad_line(),
+        }
     }
 }

@@ -3,50 +3,38 @@
 
 ghost use Rattle.std.specs.Prelude.{◌≡◌};
 ghost use Rattle.model.specs.declared.Command.TheVariants.{Read, FastRead, ReadCnt};
-ghost use Rattle.model.specs.Frame.{commanded};
+ghost use Rattle.refusals.specs.Deciding.{decided, commanded_of};
 
-use judge::reading;
-use model::{Barred, Decision, Effect, Map, Say, Tag};
+use counters::check_read_cnt;
+use judge::reading::{check_fast_read, check_read};
+use model::{Decision, Say};
+use refusals::RefusedFrame;
+use refusals::asked::Asked;
 
 // READ, 009 10.2.
-#[tactic(auto, unfolding(model::specs::Frame::command_number, model::specs::Frame::command_done, model::specs::Frame::command_reason))]
-pub fn read(map: Map, tag: Tag, s: &[u8], f: &[u8], random: &[u8]) -> Decision
-    ensures { result ≡ commanded Read map tag s.now f.now random.now }
+pub fn read(asked: &Asked) -> Result<Decision, RefusedFrame>
+    ensures { decided asked.now.tag result ≡ commanded_of Read asked.now }
 {
-    let p = octets::at(f, 1);
-    let st = tag.state;
-    let n = reading::read_number(map, st, s, p);
-    if n == 0 {
-        return decisions::answered(tag, Say::Window(p));
-    }
-    refusals::refused(n, Barred::Open, Effect::Keep)
+    let p = octets::at(asked.frame, 1);
+    check_read(&asked.pages, asked.tag.state, p)?;
+    Ok(decisions::answered(asked.tag, Say::Window(p)))
 }
 
 // FAST_READ, 009 10.3.
-#[tactic(auto, unfolding(model::specs::Frame::command_number, model::specs::Frame::command_done, model::specs::Frame::command_reason))]
-pub fn fast_read(map: Map, tag: Tag, s: &[u8], f: &[u8], random: &[u8]) -> Decision
-    ensures { result ≡ commanded FastRead map tag s.now f.now random.now }
+pub fn fast_read(asked: &Asked) -> Result<Decision, RefusedFrame>
+    ensures { decided asked.now.tag result ≡ commanded_of FastRead asked.now }
 {
-    let p = octets::at(f, 1);
-    let q = octets::at(f, 2);
-    let st = tag.state;
-    let n = reading::fast_read_number(map, st, s, p, q);
-    if n == 0 {
-        return decisions::answered(tag, Say::Range(p, q));
-    }
-    refusals::refused(n, Barred::Open, Effect::Keep)
+    let p = octets::at(asked.frame, 1);
+    let q = octets::at(asked.frame, 2);
+    check_fast_read(&asked.pages, asked.tag.state, p, q)?;
+    Ok(decisions::answered(asked.tag, Say::Range(p, q)))
 }
 
 // READ_CNT, 009 10.5.
-#[tactic(auto, unfolding(model::specs::Frame::command_number, model::specs::Frame::command_done, model::specs::Frame::command_reason))]
-pub fn read_cnt(map: Map, tag: Tag, s: &[u8], f: &[u8], random: &[u8]) -> Decision
-    ensures { result ≡ commanded ReadCnt map tag s.now f.now random.now }
+pub fn read_cnt(asked: &Asked) -> Result<Decision, RefusedFrame>
+    ensures { decided asked.now.tag result ≡ commanded_of ReadCnt asked.now }
 {
-    let k = octets::at(f, 1);
-    let st = tag.state;
-    let n = counters::read_cnt_number(map, st, s, k);
-    if n == 0 {
-        return decisions::answered(tag, Say::Count(k));
-    }
-    refusals::refused(n, Barred::Open, Effect::Keep)
+    let k = octets::at(asked.frame, 1);
+    check_read_cnt(&asked.pages, asked.tag.state, k)?;
+    Ok(decisions::answered(asked.tag, Say::Count(k)))
 }

@@ -1,29 +1,28 @@
-// What a decision says: the reply buffer is written through `speak` alone. Data is laid over its start, and CRC_A is put behind it.
+// What a decision says: the reply buffer is written through `speak` alone. Data is laid over its start, and CRC_A is put behind it. The buffer is C's, so each
+// function that lays bytes over its start returns how many they are.
 ghost use Rattle.std.specs.Prelude.{◌≡◌, ◌∷◌, ◌+◌, ◌-◌, ◌≤◌, length};
 ghost use Rattle.framing.specs.Laid.{Laid};
 ghost use Rattle.model.specs.Counters.{low_first};
 ghost use Rattle.model.specs.Frame.{said_of, reply_of, laid_over};
 ghost use Rattle.reply.specs.Speaking.{data_of, said_size};
 
-use model::{Map, Reply, Say, Tag};
+use memory::pages::Pages;
+use model::{Reply, Say, Tag};
 
 // How many pages lie from p to q.
 fn pages_between(p: u8, q: u8) -> usize
     ensures value { result ≡ q + 1 - p }
     ensures upper_bound { result ≤ 256 }
 {
-    let end = (q as usize) + 1;
-    let start = p as usize;
-    if start <= end { end - start } else { 0 }
+    (q as usize + 1).saturating_sub(p as usize)
 }
 
-// Three bytes of a counter, low byte first.
+// Three bytes of a counter, low byte first: made here and in `image_write`, since a shared function would be a crate more for both.
 fn lay_count(v: u32, reply: &mut [u8]) -> usize
     ensures { Laid reply.old reply.new result (low_first 3 v) }
 {
-    octets::put(reply, 0, (v % 256) as u8);
-    octets::put(reply, 1, (v / 256 % 256) as u8);
-    octets::put(reply, 2, (v / 256 / 256 % 256) as u8);
+    let [low, middle, high, _] = v.to_le_bytes();
+    octets::lay(reply, 0, &[low, middle, high]);
     3
 }
 
@@ -39,15 +38,14 @@ fn lay_block(b: u8, block: [u8; 16], reply: &mut [u8]) -> usize
 
 // The bytes of a reply without their CRC_A; returns how many they are. Silence and a nibble have none.
 #[tactic(auto, unfolding(crate::specs::Speaking::data_of, model::specs::Reading::fast_range))]
-fn lay_data(map: Map, tag: Tag, s: &[u8], say: Say, block: [u8; 16], reply: &mut [u8]) -> usize
+fn lay_data(pages: &Pages, tag: Tag, say: Say, block: [u8; 16], reply: &mut [u8]) -> usize
     requires { said_size say ≤ length reply.old }
-    ensures { Laid reply.old reply.new result (data_of map tag s.now block say) }
+    ensures { Laid reply.old reply.new result (data_of pages.now.map tag pages.now.bytes.now block say) }
 {
-    let state = tag.state;
     match say {
         Say::Silence | Say::Nibble(_) => 0,
-        Say::Window(p) => shown::window::lay_window(map, state, s, p, reply),
-        Say::Range(p, q) => shown::lay_pages(map, state, s, p, pages_between(p, q), reply),
+        Say::Window(p) => shown::window::lay_window(pages, tag.state, p, reply),
+        Say::Range(p, q) => shown::lay_pages(pages, tag.state, p, pages_between(p, q), reply),
         Say::Count(n) => lay_count(counters::counter(tag, n), reply),
         Say::Block(b) => lay_block(b, block, reply),
     }
@@ -55,12 +53,12 @@ fn lay_data(map: Map, tag: Tag, s: &[u8], say: Say, block: [u8; 16], reply: &mut
 
 // The reply. The pages are those before the frame stores; only the bytes that are said are written.
 #[tactic(auto, unfolding(model::specs::Frame::said_of, crate::specs::Speaking::data_of))]
-pub fn speak(map: Map, tag: Tag, s: &[u8], say: Say, block: [u8; 16], reply: &mut [u8]) -> Reply
+pub fn speak(pages: &Pages, tag: Tag, say: Say, block: [u8; 16], reply: &mut [u8]) -> Reply
     requires { said_size say ≤ length reply.old }
-    ensures value { result ≡ reply_of (said_of map tag s.now block say) }
-    ensures reply_after { reply.new ≡ laid_over reply.old (said_of map tag s.now block say) }
+    ensures value { result ≡ reply_of (said_of pages.now.map tag pages.now.bytes.now block say) }
+    ensures reply_after { reply.new ≡ laid_over reply.old (said_of pages.now.map tag pages.now.bytes.now block say) }
 {
-    let n = lay_data(map, tag, s, say, block, reply);
+    let n = lay_data(pages, tag, say, block, reply);
     match say {
         Say::Silence => Reply::Silence,
         Say::Nibble(k) => Reply::Nibble(k),

@@ -1,61 +1,56 @@
 // Bytes from the hexadecimal digits that the standards print.
-ghost use Rattle.std.specs.Prelude.{◌≤◌, ◌<◌, length};
+ghost use Rattle.std.specs.Prelude.{◌≡◌, ◌%◌, ◌≤◌, ◌<◌, length};
 ghost use Rattle.io.specs.Counts.{IsPrefixLen};
+ghost use Rattle.text.specs.Digits.{digit_of};
+ghost use Rattle.reports.specs.Digits.{octet_or_zero, octets_from};
+
+use text::digits;
 
 // The value of a lower-case hexadecimal digit; any other byte counts 0.
 pub fn value(digit: u8) -> u8
-    ensures { result < 16 }
+    ensures value { result ≡ digit_of digit % 16 }
+    ensures bound { result < 16 }
 {
-    text::digits::digit(digit) % 16
+    digits::digit(digit).unwrap_or(0)
 }
 
-// Byte i of a text of digits.
-pub fn octet(text: &[u8], i: usize) -> u8
-    requires { i < 4096 }
+// Byte i of a text of digits, and 0 where the text has not both of its digits.
+#[tactic(auto, unfolding(crate::specs::Digits::octet_or_zero))]
+fn octet_or_zero(text: &[u8], i: usize) -> u8
+    ensures { result ≡ octet_or_zero text.now i }
 {
-    16 * value(octets::at(text, 2 * i)) + value(octets::at(text, 2 * i + 1))
-}
-
-// The smaller of two numbers.
-fn least(a: usize, b: usize) -> usize
-    ensures { result ≤ b }
-{
-    if a < b { a } else { b }
+    if i < text.len() / 2 {
+        digits::octet(text, 2 * i)
+    } else {
+        0
+    }
 }
 
 // Lays the bytes of a text from byte start on over the first bytes of out, as many as there are and as fit; returns how many they are.
+// A count beside the buffer, since a change is laid into the middle of a file: a list of the bytes would be copied there, which is no plainer.
 pub fn lay(text: &[u8], start: usize, out: &mut [u8]) -> usize
     requires start_bound { start < 2048 }
     requires out_len_bound { length out.old < 2048 }
     ensures { IsPrefixLen result out.new }
 {
-    let end = least(text.len() / 2, start + out.len());
-    let mut n = 0;
-    while start + n < end {
-        out[n] = octet(text, start + n);
-        n += 1;
+    let n = (text.len() / 2).saturating_sub(start).min(out.len());
+    for (i, byte) in out[..n].iter_mut().enumerate() {
+        *byte = digits::octet(text, 2 * (start + i));
     }
     n
 }
 
-// Block n of a text, from 0.
-pub fn block(text: &[u8], n: usize) -> [u8; 16]
-    requires { n < 4 }
+// The bytes of a text from byte start on; where there are fewer, zeros stand behind them.
+// Stored one by one, since bytes that are given by their places have laws of stores, and none of `array::from_fn`.
+#[tactic(auto, unfolding(text::specs::Listed::listed))]
+pub fn octets_of<const N: usize>(text: &[u8], start: usize) -> [u8; N]
+    requires start_bound { start < 2048 }
+    requires count_bound { N < 2048 }
+    ensures { result ≡ octets_from text.now start N }
 {
-    let mut b = [0u8; 16];
-    lay(text, 16 * n, &mut b);
-    b
-}
-
-// The first two blocks of a text.
-pub fn two_blocks(text: &[u8]) -> [u8; 32] {
-    let mut b = [0u8; 32];
-    lay(text, 0, &mut b);
-    b
-}
-
-pub fn schedule(text: &[u8]) -> [u8; 176] {
-    let mut w = [0u8; 176];
-    lay(text, 0, &mut w);
-    w
+    let mut bytes = [0; N];
+    for k in 0..N {
+        octets::put(&mut bytes, k, octet_or_zero(text, start + k));
+    }
+    bytes
 }

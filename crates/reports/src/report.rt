@@ -1,18 +1,12 @@
-// A line of the report.
+// A line of the report. It is written by `io`: std's printing would put a handle and a Result into every function of five crates.
 
 // Where a report is written: standard output.
 pub const STDOUT_FILENO: i32 = 1;
 
-fn print_byte(byte: u8) {
-    io::print_hex(STDOUT_FILENO, byte as u64, 2);
-}
-
 // The bytes in lower hexadecimal.
 pub fn print_bytes(bytes: &[u8]) {
-    let mut i = 0;
-    while i < bytes.len() {
-        print_byte(bytes[i]);
-        i += 1;
+    for b in bytes {
+        io::print_hex(STDOUT_FILENO, u64::from(*b), 2);
     }
 }
 
@@ -35,13 +29,9 @@ pub fn verdict(name: &[u8], same: bool) {
 
 // The name and `ok`, or the name, `differs`, the computed value and the expected one.
 pub fn line(name: &[u8], got: &[u8], expected: &[u8]) {
-    let same = check::same(got, expected);
+    let same = got == expected;
     verdict(name, same);
     if !same {
         print_values(got, expected);
     }
-}
-
-pub fn block(name: &[u8], got: [u8; 16], expected: [u8; 16]) {
-    line(name, &got, &expected);
 }

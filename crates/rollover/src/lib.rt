@@ -5,17 +5,18 @@ ghost use Rattle.std.specs.Prelude.{◌≡◌};
 ghost use Rattle.model.specs.Reading.{last_readable, page_after};
 
 use judge::reading::read_barred;
-use memory::settings;
+use memory::pages::Pages;
 use memory::sizes::last_page;
-use model::{Map, State};
+use model::State;
 
 // The last page that may be read: the one before AUTH0 where AUTH0 protects a page from reading.
-pub fn last_readable(map: Map, st: State, s: &[u8]) -> u8
-    ensures { result ≡ last_readable map st s.now }
+#[tactic(auto, unfolding(model::specs::Reading::last_readable))]
+pub fn last_readable(pages: &Pages, st: State) -> u8
+    ensures { result ≡ last_readable pages.now.map st pages.now.bytes.now }
 {
-    let last = last_page(map);
-    if read_barred(map, st, s, last) {
-        octets::minus(settings::auth0(map, s), 1)
+    let last = last_page(pages.map);
+    if read_barred(pages, st, last) {
+        pages.auth0().saturating_sub(1)
     } else {
         last
     }

@@ -1,18 +1,15 @@
 // The key expansion, FIPS 197 section 5.2, word by word.
 #![tactic(auto)]
 
-ghost use Rattle.std.specs.Prelude.{◌≡◌, [], ◌∷◌, ◌≤◌, ◌<◌, take};
-ghost use Rattle.fips197.specs.SBox.{s_box_table};
-ghost use Rattle.fips197.specs.KeyExpansion.{rot_word, xor_word, power_of_x, next_word, key_expansion};
-ghost use Rattle.columns.specs.Words.{bytes_of, sub_word_by};
+ghost use Rattle.std.specs.Prelude.{◌≡◌, [], ◌∷◌, ◌≤◌, ◌<◌};
+ghost use Rattle.fips197.specs.KeyExpansion.{word_of, sub_word, rot_word, xor_word, power_of_x, next_word, key_expansion};
 
-use columns::words;
-use columns::words::Word;
+use std::array;
 
 // The powers of x that the round constants start with.
-const POWERS_OF_X: [u8; 10] = [1, 2, 4, 8, 16, 32, 64, 128, 27, 54];
+static POWERS_OF_X: [u8; 10] = [1, 2, 4, 8, 16, 32, 64, 128, 27, 54];
 
-#[tactic(auto, unfolding(fips197::specs::KeyExpansion::power_of_x, fips197::specs::Field::xtime))]
+#[tactic(auto, using(crate::proofs::Powers::powers_right))]
 fn power_of_x(n: usize) -> u8
     requires { n < 10 }
     ensures { result ≡ power_of_x n }
@@ -20,75 +17,54 @@ fn power_of_x(n: usize) -> u8
     POWERS_OF_X[n]
 }
 
-// The word before a new round key, rotated, substituted, and with the round constant added.
-fn rotated(sbox: &[u8; 256], u: Word, constant: u8) -> Word
-    ensures { bytes_of result ≡ xor_word (sub_word_by sbox.now (rot_word (bytes_of u))) (constant ∷ 0 ∷ 0 ∷ 0 ∷ []) }
+// Word i of the key schedule.
+fn word_of(w: &[u8; 176], i: usize) -> [u8; 4]
+    requires { i < 44 }
+    ensures { result ≡ word_of w.now i }
 {
-    let v = words::sub_word(
-        sbox,
-        Word {
-            a: u.b,
-            b: u.c,
-            c: u.d,
-            d: u.a,
-        },
-    );
-    words::xor_word(
-        v,
-        Word {
-            a: constant,
-            b: 0,
-            c: 0,
-            d: 0,
-        },
-    )
+    array::from_fn(|r| w[4 * i + r])
+}
+
+// As columns::state::xor_block: one function over the length would need a definition of its own, for one line.
+fn xor_word(u: [u8; 4], v: [u8; 4]) -> [u8; 4]
+    ensures { result ≡ xor_word u v }
+{
+    array::from_fn(|j| u[j] ^ v[j])
+}
+
+// The word before a new round key, rotated, substituted, and with the round constant added.
+fn rotated(u: [u8; 4], constant: u8) -> [u8; 4]
+    ensures { result ≡ xor_word (sub_word (rot_word u)) (constant ∷ 0 ∷ 0 ∷ 0 ∷ []) }
+{
+    let [a, b, c, d] = u.map(sboxes::substitute);
+    [b ^ constant, c, d, a]
 }
 
 // Word i of the schedule, from the words before it.
-#[tactic(auto, unfolding(fips197::specs::KeyExpansion::next_word, fips197::specs::SBox::s_box))]
-fn next_word(sbox: &[u8; 256], w: &[u8; 176], i: usize) -> Word
-    requires sbox_value { sbox.now ≡ s_box_table }
-    requires le_i { (4 ≤ i) × (i < 44) }
-    ensures { bytes_of result ≡ next_word w.now i }
+#[tactic(auto, unfolding(fips197::specs::KeyExpansion::next_word))]
+fn next_word(w: &[u8; 176], i: usize) -> [u8; 4]
+    requires { (4 ≤ i) × (i < 44) }
+    ensures { result ≡ next_word w.now i }
 {
-    let base = words::key_word(w, i - 4);
-    let before = words::key_word(w, i - 1);
-    if i % 4 == 0 {
-        let constant = power_of_x(i / 4 - 1);
-        words::xor_word(base, rotated(sbox, before, constant))
+    let before = word_of(w, i - 1);
+    let added = if i % 4 == 0 {
+        rotated(before, power_of_x(i / 4 - 1))
     } else {
-        words::xor_word(base, before)
-    }
-}
-
-// A schedule that begins with the key.
-fn begun(key: [u8; 16]) -> [u8; 176]
-    ensures { take 16 result ≡ key }
-{
-    let mut w = [0u8; 176];
-    let mut i = 0;
-    while i < 16 {
-        w[i] = key[i];
-        i += 1;
-    }
-    w
+        before
+    };
+    xor_word(word_of(w, i - 4), added)
 }
 
 #[tactic(auto, unfolding(fips197::specs::KeyExpansion::expand, fips197::specs::KeyExpansion::key_expansion))]
-pub fn expand(sbox: &[u8; 256], key: [u8; 16]) -> [u8; 176]
-    requires { sbox.now ≡ s_box_table }
+pub fn expand(key: [u8; 16]) -> [u8; 176]
     ensures { result ≡ key_expansion key }
 {
-    let mut w = begun(key);
-    let mut n = 0;
-    while n < 40 {
-        let x = next_word(sbox, &w, 4 + n);
-        let at = 16 + 4 * n;
-        w[at] = x.a;
-        w[at + 1] = x.b;
-        w[at + 2] = x.c;
-        w[at + 3] = x.d;
-        n += 1;
+    let mut w = [0u8; 176];
+    w[..16].copy_from_slice(&key);
+    // by index: it is the word number of the definition
+    for i in 4..44 {
+        let next = next_word(&w, i);
+        w[4 * i..4 * i + 4].copy_from_slice(&next);
     }
     w
 }

@@ -1,41 +1,25 @@
 -- Laws of an image's parts, as the code reads and writes them.
 --
---   right-parts                 image_right tests the length, the counts of the sections, the failed count and the check bytes
 --   check-places                the check bytes by their places in the image
 --   sections                    an image laid section by section
 --
 -- Assumes nothing.
-use mathlib.Core.Path.{◌≡◌, refl, sym, ap, ◌∙◌}
+use mathlib.Core.Path.{◌≡◌, sym, ap, ◌∙◌}
 use mathlib.Core.List.{List, ◌∷◌, ◌++◌}
-use mathlib.Core.Bool.{Bool, true, false, ◌&&◌}
+use mathlib.Core.Bool.{◌&&◌}
 use Prim.Native.Nat.{ℕ, ◌+◌}
 use native.Mathlib.Omega.{arith}
 use lib.Bits.{bit_xor}
-use lib.Dec.{leb, eqb}
+use lib.Dec.{eqb}
 use lib.ListN.{length, get_or, drop, length-append}
 use lib.Seq.{sets, get_or-drop}
 use Rattle.octets.proofs.Laid.{sets-append}
 use Rattle.model.specs.declared.Map.{Map}
 use Rattle.model.specs.declared.Tag.{Tag}
 use Rattle.model.specs.Map.{store_size}
-use Rattle.model.specs.Record.{highest_failed}
 use Rattle.model.specs.Counters.{low_first}
-use Rattle.model.specs.Image.{counters_at, failed_at, key_at, image_size, image_of, number_at, check_bytes_right, image_right}
-use Rattle.sections.specs.Sections.{counts_right, counters_section}
-
-regroup : (a b c d e f g : Bool) → a && (b && c && d && e) && f && g ≡ a && b && c && d && e && f && g
-regroup true b c d e f g = refl
-regroup false b c d e f g = refl
-
-pub right-parts : (m : Map) (i : List ℕ)
-    → eqb (length i) (image_size m) && counts_right m i && leb (number_at i (failed_at m + 1) 2) highest_failed && check_bytes_right (drop 1 i)
-    ≡ image_right m i
-unfolding counts_right image_right
-right-parts m i =
-    regroup (eqb (length i) (image_size m)) (eqb (get_or i 0 0) m.pages) (eqb (get_or i (counters_at m) 0) 3) (eqb (get_or i (failed_at m) 0) 1)
-    (eqb (get_or i (key_at m) 0) 1)
-    (leb (number_at i (failed_at m + 1) 2) highest_failed)
-    (check_bytes_right (drop 1 i))
+use Rattle.model.specs.Image.{counters_at, failed_at, key_at, image_of, check_bytes_right}
+use Rattle.sections.specs.Sections.{counters_section}
 
 -- the check bytes by their places in the image
 pub check-places : (i : List ℕ)

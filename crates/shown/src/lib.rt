@@ -1,4 +1,4 @@
-// Pages as READ and FAST_READ show them, laid over a reply.
+// Pages as READ and FAST_READ show them, laid over a reply, which is a buffer of C's with the count of its bytes beside it.
 #![tactic(auto)]
 
 pub mod window;
@@ -10,29 +10,27 @@ ghost use Rattle.model.specs.Reading.{pages_from, shown_pages};
 ghost use Rattle.shown.specs.Run.{shown_run};
 
 use hiding::shown_byte;
-use model::{Map, State};
+use memory::pages::Pages;
+use model::State;
 
 // The n bytes from byte first on, as they are shown, from byte at of the reply on.
-fn lay_run(map: Map, st: State, s: &[u8], first: usize, n: usize, at: usize, reply: &mut [u8])
+fn lay_run(pages: &Pages, st: State, first: usize, n: usize, at: usize, reply: &mut [u8])
     requires first_bound { first ≤ 1024 }
     requires n_bound { n ≤ 1024 }
     requires at_bound { at ≤ 1024 }
-    ensures { reply.new ≡ sets reply.old at (shown_run map st s.now first n) }
+    ensures { reply.new ≡ sets reply.old at (shown_run pages.now.map st pages.now.bytes.now first n) }
 {
-    let mut i = 0;
-    while i < n {
-        let b = shown_byte(map, st, s, first + i);
-        octets::put(reply, at + i, b);
-        i += 1;
+    for i in 0..n {
+        octets::put(reply, at + i, shown_byte(pages, st, first + i));
     }
 }
 
 // The pages from first on, as they are shown; returns how many bytes they are.
-pub fn lay_pages(map: Map, st: State, s: &[u8], first: u8, count: usize, reply: &mut [u8]) -> usize
+pub fn lay_pages(pages: &Pages, st: State, first: u8, count: usize, reply: &mut [u8]) -> usize
     requires { count ≤ 256 }
-    ensures { Laid reply.old reply.new result (shown_pages map st s.now (pages_from first count)) }
+    ensures { Laid reply.old reply.new result (shown_pages pages.now.map st pages.now.bytes.now (pages_from first count)) }
 {
     let n = 4 * count;
-    lay_run(map, st, s, 4 * (first as usize), n, 0, reply);
+    lay_run(pages, st, 4 * (first as usize), n, 0, reply);
     n
 }

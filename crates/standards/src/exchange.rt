@@ -13,28 +13,25 @@ fn tag_message(name: &[u8], plain: &[u8], cipher: &[u8]) {
         name,
         ZERO,
         ZERO,
-        digits::block(plain, 0),
-        digits::block(cipher, 0),
+        digits::octets_of(plain, 0),
+        digits::octets_of(cipher, 0),
     );
 }
 
 // The reader's message: RndA, and RndB turned by a byte.
 fn reader_message() {
-    let ciphertext = READER;
-    let p1 = digits::block(b"f29b0123f5c00df612487bbf42468c7e", 0);
-    let p2 = digits::block(b"e4174ca173ebbc59165cebe2f208211a", 0);
-    let expected = digits::block(&ciphertext, 0);
+    let p1 = digits::octets_of(b"f29b0123f5c00df612487bbf42468c7e", 0);
+    let p2 = digits::octets_of(b"e4174ca173ebbc59165cebe2f208211a", 0);
+    let expected = digits::octets_of(&READER, 0);
     let c1 = chained::encipher(b"MF0AES(H)20 Table 17 RndA", ZERO, ZERO, p1, expected);
-    let expected = digits::block(&ciphertext, 1);
+    let expected = digits::octets_of(&READER, 16);
     chained::encipher(b"MF0AES(H)20 Table 17 RndB'", ZERO, c1, p2, expected);
     chained::decipher_two(
-        b"MF0AES(H)20 Table 17 RndA deciphered",
-        b"MF0AES(H)20 Table 17 RndB' deciphered",
         ZERO,
         ZERO,
-        digits::two_blocks(&ciphertext),
-        p1,
-        p2,
+        digits::octets_of(&READER, 0),
+        (b"MF0AES(H)20 Table 17 RndA deciphered", p1),
+        (b"MF0AES(H)20 Table 17 RndB' deciphered", p2),
     );
 }
 

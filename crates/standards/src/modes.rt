@@ -19,68 +19,77 @@ const CBC: [u8; 128] = *b"7649abac8119b246cee98e9b12e9197d\
     73bed6b8e3c1743b7116e69e22229516\
     3ff1caa1681fac09120eca307586e1a7";
 
-fn plain(n: usize) -> [u8; 16]
+// Block n of a text.
+fn block(text: &[u8], n: usize) -> [u8; 16]
     requires { n < 4 }
 {
-    digits::block(&PLAIN, n)
+    digits::octets_of(text, 16 * n)
 }
 
-fn cbc_block(n: usize) -> [u8; 16]
-    requires { n < 4 }
-{
-    digits::block(&CBC, n)
-}
-
-fn ecb_both_ways(there: &[u8], back: &[u8], n: usize)
-    requires { n < 4 }
-{
-    let c = digits::block(&ECB, n);
-    cipher::both_ways(there, back, cipher::example_key(), plain(n), c);
-}
+// The names of a block's two ways. Names and texts are written out, as the standard and the report have them: a name made in code would be found by no search.
+const ECB_NAMES: [(&[u8], &[u8]); 4] = [
+    (b"SP 800-38A F.1.1 block 1", b"SP 800-38A F.1.2 block 1"),
+    (b"SP 800-38A F.1.1 block 2", b"SP 800-38A F.1.2 block 2"),
+    (b"SP 800-38A F.1.1 block 3", b"SP 800-38A F.1.2 block 3"),
+    (b"SP 800-38A F.1.1 block 4", b"SP 800-38A F.1.2 block 4"),
+];
 
 pub fn ecb() {
-    ecb_both_ways(b"SP 800-38A F.1.1 block 1", b"SP 800-38A F.1.2 block 1", 0);
-    ecb_both_ways(b"SP 800-38A F.1.1 block 2", b"SP 800-38A F.1.2 block 2", 1);
-    ecb_both_ways(b"SP 800-38A F.1.1 block 3", b"SP 800-38A F.1.2 block 3", 2);
-    ecb_both_ways(b"SP 800-38A F.1.1 block 4", b"SP 800-38A F.1.2 block 4", 3);
+    for (n, (there, back)) in ECB_NAMES.iter().enumerate() {
+        cipher::both_ways(
+            there,
+            back,
+            cipher::example_key(),
+            block(&PLAIN, n),
+            block(&ECB, n),
+        );
+    }
 }
 
-fn encipher(name: &[u8], chain: [u8; 16], n: usize) -> [u8; 16]
-    requires { n < 4 }
-{
-    chained::encipher(name, cipher::example_key(), chain, plain(n), cbc_block(n))
-}
-
-fn decipher(name: &[u8], chain: [u8; 16], n: usize)
-    requires { n < 4 }
-{
-    let got = cbc::cbc_decipher(cipher::example_key(), chain, cbc_block(n));
-    report::block(name, got, plain(n));
-}
+const ENCIPHER_NAMES: [&[u8]; 4] = [
+    b"SP 800-38A F.2.1 block 1",
+    b"SP 800-38A F.2.1 block 2",
+    b"SP 800-38A F.2.1 block 3",
+    b"SP 800-38A F.2.1 block 4",
+];
 
 fn cbc_encipher() {
-    let c1 = encipher(b"SP 800-38A F.2.1 block 1", cipher::counting(), 0);
-    let c2 = encipher(b"SP 800-38A F.2.1 block 2", c1, 1);
-    let c3 = encipher(b"SP 800-38A F.2.1 block 3", c2, 2);
-    encipher(b"SP 800-38A F.2.1 block 4", c3, 3);
+    let key = cipher::example_key();
+    let mut chain = cipher::counting();
+    for (n, name) in ENCIPHER_NAMES.iter().enumerate() {
+        let next = chained::encipher(name, key, chain, block(&PLAIN, n), block(&CBC, n));
+        chain = next;
+    }
 }
 
+const DECIPHER_NAMES: [&[u8]; 4] = [
+    b"SP 800-38A F.2.2 block 1",
+    b"SP 800-38A F.2.2 block 2",
+    b"SP 800-38A F.2.2 block 3",
+    b"SP 800-38A F.2.2 block 4",
+];
+
 fn cbc_decipher() {
-    decipher(b"SP 800-38A F.2.2 block 1", cipher::counting(), 0);
-    decipher(b"SP 800-38A F.2.2 block 2", cbc_block(0), 1);
-    decipher(b"SP 800-38A F.2.2 block 3", cbc_block(1), 2);
-    decipher(b"SP 800-38A F.2.2 block 4", cbc_block(2), 3);
+    let key = cipher::example_key();
+    let mut chain = cipher::counting();
+    for (n, name) in DECIPHER_NAMES.iter().enumerate() {
+        let cipher = block(&CBC, n);
+        report::line(
+            name,
+            &cbc::cbc_decipher(key, chain, cipher),
+            &block(&PLAIN, n),
+        );
+        chain = cipher;
+    }
 }
 
 fn cbc_decipher_two() {
     chained::decipher_two(
-        b"SP 800-38A F.2.2 block 1 of two",
-        b"SP 800-38A F.2.2 block 2 of two",
         cipher::example_key(),
         cipher::counting(),
-        digits::two_blocks(&CBC),
-        plain(0),
-        plain(1),
+        digits::octets_of(&CBC, 0),
+        (b"SP 800-38A F.2.2 block 1 of two", block(&PLAIN, 0)),
+        (b"SP 800-38A F.2.2 block 2 of two", block(&PLAIN, 1)),
     );
 }
 

@@ -3,7 +3,7 @@ use reports::report;
 
 fn trailer(name: &[u8], frame: &[u8], first: u8, second: u8) {
     let got = crc::on_air(crc::crc_a(frame));
-    report::line(name, &[got.first, got.second], &[first, second]);
+    report::line(name, &got, &[first, second]);
 }
 
 pub fn trailers() {

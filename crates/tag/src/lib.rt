@@ -1,4 +1,5 @@
-// The calls of the tag: power, select, frame, load and save. None asks anything of its caller; each is its definition of the same name in `model`.
+// The calls of the tag: power, select, frame, load and save. None asks anything of its caller; each is its definition of the same name in `model`. Four only
+// hand on what a crate below does: the theorems of `runs` are about the promises that stand here, so the calls are no `pub use` of it.
 #![tactic(auto)]
 
 ghost use Rattle.std.specs.Prelude.{◌≡◌, length};
@@ -11,6 +12,7 @@ ghost use Rattle.model.specs.Image.{load, save};
 use effect::storing;
 use events::Answer;
 use image::Loading;
+use memory::pages::Pages;
 use model::Tag;
 use reply::speaking;
 
@@ -37,20 +39,19 @@ pub fn frame(tag: Tag, store: &mut [u8], f: &[u8], random: &[u8], reply: &mut [u
     ensures store_after { store.new ≡ (frame tag store.old f.now random.now (length reply.old)).store }
     ensures reply_after { reply.new ≡ laid_over reply.old (frame tag store.old f.now random.now (length reply.old)).said }
 {
-    let map = image::mf0aes20();
-    let d = deciding::decide(map, tag, &store[..], f, random, reply.len());
-    let say = d.say;
+    let pages = Pages {
+        map: image::mf0aes20(),
+        bytes: &store[..],
+    };
+    let d = deciding::decide(&pages, tag, f, random, reply.len());
     let block = d.block;
-    let effect = d.effect;
-    let reason = d.reason;
-    let said = speaking::speak(map, tag, &store[..], say, block, reply);
-    storing::store_after(store, effect);
-    let next = storing::tag_after(tag, d);
+    let said = speaking::speak(&pages, tag, d.say, block, reply);
+    storing::store_after(store, d.effect);
     Answer {
         number: d.number,
         reply: said,
-        reason,
-        tag: next,
+        reason: d.reason,
+        tag: storing::tag_after(tag, d),
     }
 }
 

@@ -10,28 +10,31 @@ use c_record::{RECORD_SIZE, record_of};
 use model::Reply;
 
 // The field comes on. Any record is taken: its stored part stays as it is.
+#[tactic(auto, unfolding(crate::specs::Calls::fits, crate::specs::Calls::power))]
 pub fn kz_power(record: &mut [u8]) -> u8
     ensures value { result ≡ (power «record».old).number }
     ensures record_after { «record».new ≡ (power «record».old).bytes }
 {
-    if record.len() != RECORD_SIZE {
+    let Some(record) = record.as_mut_array::<RECORD_SIZE>() else {
         return 10;
-    }
+    };
     c_events::power(record)
 }
 
 // The reader selects the tag, whatever its state and its record.
+#[tactic(auto, unfolding(crate::specs::Calls::fits, crate::specs::Calls::select))]
 pub fn kz_select(record: &mut [u8]) -> u8
     ensures value { result ≡ (select «record».old).number }
     ensures record_after { «record».new ≡ (select «record».old).bytes }
 {
-    if record.len() != RECORD_SIZE {
+    let Some(record) = record.as_mut_array::<RECORD_SIZE>() else {
         return 10;
-    }
+    };
     c_events::select(record)
 }
 
 // A frame, with sixteen random bytes and a buffer for the reply.
+#[tactic(auto, unfolding(crate::specs::Calls::fits, crate::specs::Calls::frame))]
 pub fn kz_frame(
     record: &mut [u8],
     store: &mut [u8],
@@ -44,26 +47,28 @@ pub fn kz_frame(
     ensures store_after { store.new ≡ (frame «record».old store.old f.now random.now reply.old).store }
     ensures reply_after { reply.new ≡ (frame «record».old store.old f.now random.now reply.old).reply }
 {
-    if record.len() != RECORD_SIZE {
+    let Some(record) = record.as_mut_array::<RECORD_SIZE>() else {
         return answer_of(10, 0, Reply::Silence);
-    }
+    };
     let a = tag::frame(record_of(&record[..]), store, f, random, reply);
     c_told::told(record, a)
 }
 
 // An image file is loaded into a store, and its record into the record buffer.
+#[tactic(auto, unfolding(crate::specs::Calls::fits, crate::specs::Calls::load))]
 pub fn kz_load(record: &mut [u8], store: &mut [u8], file: &[u8]) -> u8
     ensures value { result ≡ (load «record».old store.old file.now).number }
     ensures record_after { «record».new ≡ (load «record».old store.old file.now).bytes }
     ensures store_after { store.new ≡ (load «record».old store.old file.now).store }
 {
-    if record.len() != RECORD_SIZE {
+    let Some(record) = record.as_mut_array::<RECORD_SIZE>() else {
         return 10;
-    }
+    };
     c_image::load(record, store, file)
 }
 
 // The tag is saved as an image file, into the first bytes of a buffer.
+#[tactic(auto, unfolding(crate::specs::Calls::fits, crate::specs::Calls::save))]
 pub fn kz_save(record: &[u8], store: &[u8], file: &mut [u8]) -> u8
     ensures value { result ≡ (save «record».now store.now file.old).number }
     ensures file_after { file.new ≡ (save «record».now store.now file.old).file }

@@ -1,53 +1,43 @@
 -- Laws of lines in pieces.
 --
---   mark-none, mark-here, mark_on    at the end, at a mark, and at any other byte
---   laid-front                       bytes laid over a list: the front of it up to their end
---   held-short, held-long            what is held, where the piece fits, and where it doesn't
+--   mark_found, mark_none    where the first mark stands from a place on, by what `position` finds there
+--   held_part                what is held, of what was held and as much of a piece as there is room for
 --
 -- Assumes nothing.
-use mathlib.Core.Path.{◌≡◌, sym, ap, ◌∙◌}
-use mathlib.Core.List.{List, ◌++◌}
-use Prim.Native.Nat.{ℕ, suc, ◌+◌, ◌-◌, ◌≤◌, ◌<◌}
-use native.Mathlib.Omega.{arith}
-use borrow.Author.Tests.{eq-eqb, ne_eqb}
-use lib.ListN.{length, get_or, take, drop, length-append, drop_of_length-le}
-use lib.Seq.{sets, sets-eq, drop-cons, take_all, take_at, take-append-add, length-take-le}
+use Rattle.std.proofs.Common.{◌≡◌, ℕ, ◌+◌, ◌-◌, ◌≤◌, List, ◌++◌, cond, eqb, min, length, take, drop, Some, None, refl, sym, ◌∙◌, ap, arith, length-drop}
+use Rattle.std.specs.List.{position, position_or_len}
+use Rattle.std.proofs.lemmas.Grind.{common_steps}
+use Rattle.std.proofs.lemmas.List.{take_min}
+use Rattle.std.proofs.lemmas.List.Recursion.{is_position_or_len}
+use Rattle.std.proofs.lemmas.List.Sums.{prefix_len-le-length}
+use lib.Seq.{take_all, take-append-add}
 use Rattle.text.specs.Lines.{before_mark, held_of}
 
-pub mark-none : (m : ℕ) (l : List ℕ) (e : ℕ) → length l ≤ e → before_mark m (drop e l) ≡ 0
+mark_place : (m : ℕ) (bs : List ℕ) → before_mark m bs ≡ position_or_len (λ b. eqb b m) bs
 unfolding before_mark
-mark-none m l e h = rw (drop_of_length-le l h)
+mark_place m bs = is_position_or_len (before_mark m) (λ b. eqb b m) refl (λ x xs. ap (cond (eqb x m) 0) (omega arith)) bs
 
-pub mark-here : (m : ℕ) (l : List ℕ) (e : ℕ) → e < length l → get_or l e 0 ≡ m → before_mark m (drop e l) ≡ 0
-unfolding before_mark
-mark-here m l e h n = rw (drop-cons l e 0 h, eq-eqb (get_or l e 0) m n)
+place_found : (m : ℕ) (bs : List ℕ) (n : ℕ) → position (λ b. eqb b m) bs ≡ Some n → before_mark m bs ≡ n
+place_found m bs n h = let p = mark_place m bs in grind (arith, common_steps)
 
-pub mark_on : (m : ℕ) (l : List ℕ) (e : ℕ) → e < length l → (get_or l e 0 ≡ m → ⊥)
-    → before_mark m (drop e l) ≡ suc (before_mark m (drop (suc e) l))
-unfolding before_mark
-mark_on m l e h n = rw (drop-cons l e 0 h, ne_eqb (get_or l e 0) m n)
+place_none : (m : ℕ) (bs : List ℕ) → position (λ b. eqb b m) bs ≡ None → before_mark m bs ≡ length bs
+place_none m bs h = let p = mark_place m bs in grind (arith, common_steps, prefix_len-le-length)
 
-pub laid-front : (l : List ℕ) (f : ℕ) (bs : List ℕ) → f + length bs ≤ length l → take (f + length bs) (sets l f bs) ≡ take f l ++ bs
-laid-front l f bs h =
-    let front = length-append (take f l) bs in
-    let cut = length-take-le f l (omega arith) in
-    ap (take (f + length bs)) (sets-eq bs l f h) ∙ take_at (take f l ++ bs) (drop (f + length bs) l) (f + length bs) (omega arith)
+module _ (bs : List ℕ) (i : ℕ) (within : i ≤ length bs) where
+  rest : take (length bs - i) (drop i bs) ≡ drop i bs
+  rest = take_all (length bs - i) (drop i bs) (omega (arith, length-drop i bs))
 
-module _ (l piece : List ℕ) (held : ℕ) (size : length l ≡ 128) (few : held ≤ 127) where
-  cut : length (take held l) ≡ held
-  cut = length-take-le held l (omega arith)
+  pub mark_found : (m n : ℕ) → position (λ b. eqb b m) (take (length bs - i) (drop i bs)) ≡ Some n → i + n ≡ i + before_mark m (drop i bs)
+  mark_found m n h = let at = place_found m (drop i bs) n (ap (position (λ b. eqb b m)) (sym rest) ∙ h) in omega arith
 
-  pub held-short : length piece < 127 - held → take (held + length piece) (sets l held piece) ≡ held_of (take held l) piece
-  held-short h =
-      let whole = length-append (take held l) piece in
-      laid-front l held piece (omega arith) ∙ sym (take_all 127 (take held l ++ piece) (omega (arith, cut)))
+  pub mark_none : (m : ℕ) → position (λ b. eqb b m) (take (length bs - i) (drop i bs)) ≡ None → length bs ≡ i + before_mark m (drop i bs)
+  mark_none m h = let at = place_none m (drop i bs) (ap (position (λ b. eqb b m)) (sym rest) ∙ h) in omega (arith, length-drop i bs)
 
-  pub held-long : 127 - held ≤ length piece → take 127 (sets l held (take (127 - held) piece)) ≡ held_of (take held l) piece
-  held-long h =
-      let part = length-take-le (127 - held) piece h in
-      let end : held + length (take (127 - held) piece) ≡ 127 = omega arith in
-      let size' : length (take held l) + (127 - held) ≡ 127 = omega (arith, cut) in
-      ap (λ (n : ℕ). take n (sets l held (take (127 - held) piece))) (sym end)
-      ∙ laid-front l held (take (127 - held) piece) (omega arith)
-      ∙ sym (take-append-add (take held l) piece (127 - held))
-      ∙ ap (λ (n : ℕ). take n (take held l ++ piece)) size'
+pub held_part : (before piece : List ℕ) (room n : ℕ) → room + length before ≡ 127 → n ≡ min (length piece) room → before ++ take n piece ≡ held_of before piece
+held_part before piece room n h e =
+    let size : length before + room ≡ 127 = omega arith in
+    let most : n ≡ min room (length piece) = omega arith in
+    ap (λ k. before ++ take k piece) most
+    ∙ ap (λ l. before ++ l) (take_min room piece)
+    ∙ sym (take-append-add before piece room)
+    ∙ ap (λ k. take k (before ++ piece)) size

@@ -1,4 +1,4 @@
-// Outside vectors through the public functions of `aes`, `crc` and `tag`: a line for each, with its name and whether the value came out.
+// Outside vectors through the public functions of `aes`, `cbc`, `crc` and `tag`: a line for each, with its name and whether the value came out.
 #![tactic(auto)]
 
 use standards::{cipher, exchange, modes, trailer};

@@ -3,24 +3,30 @@
 
 ghost use Rattle.std.specs.Prelude.{◌≡◌};
 ghost use Rattle.model.specs.declared.Command.TheVariants.{Write};
-ghost use Rattle.model.specs.Frame.{commanded};
+ghost use Rattle.refusals.specs.Deciding.{decided, commanded_of};
 
 use judge::frame::data_of;
-use model::{Decision, Effect, Map, Tag};
+use model::{Decision, Effect};
+use refusals::RefusedFrame;
+use refusals::asked::Asked;
 
 // WRITE, 009 10.4. The rule that stops it gives the number, and is passed up.
-#[tactic(auto, unfolding(model::specs::Frame::command_reason, model::specs::Frame::command_number, model::specs::Frame::command_done))]
-pub fn write(map: Map, tag: Tag, s: &[u8], f: &[u8], random: &[u8]) -> Decision
-    ensures { result ≡ commanded Write map tag s.now f.now random.now }
+pub fn write(asked: &Asked) -> Result<Decision, RefusedFrame>
+    ensures { decided asked.now.tag result ≡ commanded_of Write asked.now }
 {
-    let p = octets::at(f, 1);
-    let q = data_of(f);
-    let st = tag.state;
-    let why = locks::barred(map, st, s, p, q);
-    let n = locks::write_number(map, p, why);
-    if n == 0 {
-        let w = pagewrite::written(map, s, p, q);
-        return decisions::acknowledged(tag, Effect::Page(p, w));
+    let p = octets::at(asked.frame, 1);
+    let q = data_of(asked.frame);
+    let reason = locks::barred(&asked.pages, asked.tag.state, p, q);
+    // tried: `map_err(..)?`, where what its closure gives was left to show
+    match locks::check_write(asked.pages.map, p, reason) {
+        Ok(()) => {
+            let w = pagewrite::written(&asked.pages, p, q);
+            Ok(decisions::acknowledged(asked.tag, Effect::Page(p, w)))
+        }
+        Err(why) => Err(RefusedFrame {
+            why,
+            reason,
+            effect: Effect::Keep,
+        }),
     }
-    refusals::refused(n, why, Effect::Keep)
 }

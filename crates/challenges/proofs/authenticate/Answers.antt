@@ -1,29 +1,24 @@
--- `challenges::authenticate` meets its contract: by its own number, what it comes to.
+-- `challenges::authenticate` meets its contract: by its own check, what it comes to.
 -- Assumes nothing.
-use mathlib.Core.Path.{refl, sym, ap, ◌∙◌}
-use Prim.Native.Nat.{ℕ}
-use Rattle.model.specs.declared.Barred.TheVariants.{Open}
+use mathlib.Core.Path.{refl, sym, ap, ap₂, ◌∙◌}
 use Rattle.model.specs.declared.Command.TheVariants.{Authenticate}
 use Rattle.model.specs.Authentication.{challenge_number, challenged}
 use Rattle.model.specs.Frame.{command_reason, command_number, command_done}
-use Rattle.model.proofs.Ruling.{done-by, refused-by, authenticate-other}
+use Rattle.model.proofs.Ruling.{authenticate-other}
+use Rattle.refusals.proofs.Outcome.{refused-exit, done-decided}
 use Rattle.challenges.proofs.authenticate.Goals as goal
 
-pub returns-then-n-eq0 : goal.returns-then-n-eq0
-unfolding command_number command_done
-returns-then-n-eq0 c =
-    let a = c.args in
-    let s = a.s.now in
-    let key = c.at-k.ensures in
-    let own = sym (c.challenge_number-n.ensures ∙ ap (challenge_number a.map a.tag s) key) in
-    done-by Authenticate a.map a.tag s a.f.now a.random.now _ _ own c.if-n-eq0.true
-    (c.challenge.ensures ∙ ap (λ (k : ℕ). challenged a.map a.tag s k a.random.now) key)
+pub returns-in_err-check_challenge : goal.returns-in_err-check_challenge
+unfolding command_reason command_number
+returns-in_err-check_challenge c =
+    let a = c.args.asked.now in
+    let own = c.in_err-check_challenge.ensures ∙ ap (challenge_number a.pages.map a.tag a.pages.bytes.now) c.at-k.ensures in
+    refused-exit Authenticate a.pages.map a.tag a.pages.bytes.now a.frame.now a.random.now authenticate-other _ _ c.from_residual.ensures.1 own refl
 
 pub returns : goal.returns
-unfolding command_reason command_number
+unfolding command_number command_done
 returns c =
-    let a = c.args in
-    let s = a.s.now in
-    let key = c.at-k.ensures in
-    let own = sym (c.challenge_number-n.ensures ∙ ap (challenge_number a.map a.tag s) key) in
-    refused-by Authenticate a.map a.tag s a.f.now a.random.now _ _ own authenticate-other Open refl c.if-n-eq0.false c.refused.ensures
+    let a = c.args.asked.now in
+    let own = sym (c.in_ok-check_challenge.ensures ∙ ap (challenge_number a.pages.map a.tag a.pages.bytes.now) c.at-k.ensures) in
+    done-decided Authenticate a.pages.map a.tag a.pages.bytes.now a.frame.now a.random.now _ own
+    (c.challenge.ensures ∙ ap₂ (challenged a.pages.map a.tag a.pages.bytes.now) c.at-k.ensures c.block_of.ensures)

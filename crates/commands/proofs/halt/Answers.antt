@@ -1,38 +1,29 @@
--- `commands::halt` meets its contract: by its own number, what it comes to.
+-- `commands::halt` meets its contract: by its own check, what it comes to.
 -- Assumes nothing.
-use mathlib.Core.Path.{◌≡◌, refl, sym, ◌∙◌}
-use mathlib.Core.List.{List}
+use mathlib.Core.Path.{refl, sym, ap, ◌∙◌}
+use mathlib.Core.Bool.{not}
 use Prim.Native.Nat.{ℕ}
-use native.Mathlib.Omega.{arith}
-use borrow.Author.Tests.{ne_eqb}
-use lib.ListN.{get_or}
-use Rattle.model.specs.declared.Map.{Map}
-use Rattle.model.specs.declared.Tag.{Tag}
-use Rattle.model.specs.declared.Barred.TheVariants.{Open}
+use lib.Dec.{eqb}
 use Rattle.model.specs.declared.Command.TheVariants.{Halt}
 use Rattle.model.specs.Numbers.{number_if}
 use Rattle.model.specs.Frame.{command_reason, command_number, command_done}
-use Rattle.model.proofs.Ruling.{done-by, refused-by, halt-other}
+use Rattle.model.proofs.Ruling.{halt-other}
+use Rattle.numbers.specs.declared.Refusal.TheVariants.{Argument}
+use Rattle.numbers.specs.Refusals.{number_told}
+use Rattle.numbers.proofs.Checks.{number-refuse_if}
+use Rattle.refusals.proofs.Outcome.{refused-exit, done-decided}
 use Rattle.commands.proofs.halt.Goals as goal
 
-right : (m : Map) (tag : Tag) (s f : List ℕ) → get_or f 1 0 ≡ 0 → command_number Halt m tag s f ≡ 0
-unfolding command_number number_if
-right m tag s f e = rw e
-
-wrong : (m : Map) (tag : Tag) (s f : List ℕ) → (get_or f 1 0 ≡ 0 → ⊥) → command_number Halt m tag s f ≡ 5
-unfolding command_number number_if
-wrong m tag s f h = rw (ne_eqb (get_or f 1 0) 0 h)
-
-pub returns-then-at-eq0 : goal.returns-then-at-eq0
-unfolding command_done
-returns-then-at-eq0 c =
-    let a = c.args in
-    let own = right a.map a.tag a.s.now a.f.now (sym c.at.ensures ∙ c.if-at-eq0.true) in
-    done-by Halt a.map a.tag a.s.now a.f.now a.random.now _ _ own refl c.halted.ensures
+pub returns-in_err-refuse_if : goal.returns-in_err-refuse_if
+unfolding command_reason command_number
+returns-in_err-refuse_if c =
+    let a = c.args.asked.now in
+    let own = ap number_told c.in_err-refuse_if.ensures ∙ number-refuse_if _ Argument ∙ ap (λ (n : ℕ). number_if (not (eqb n 0)) 5) c.at.ensures in
+    refused-exit Halt a.pages.map a.tag a.pages.bytes.now a.frame.now a.random.now halt-other _ _ c.from_residual.ensures.1 own refl
 
 pub returns : goal.returns
-unfolding command_reason
+unfolding command_number command_done
 returns c =
-    let a = c.args in
-    let own = wrong a.map a.tag a.s.now a.f.now (λ e. c.if-at-eq0.false (c.at.ensures ∙ e)) in
-    refused-by Halt a.map a.tag a.s.now a.f.now a.random.now _ _ own halt-other Open refl (omega arith) c.refused.ensures
+    let a = c.args.asked.now in
+    let own = ap number_told c.in_ok-refuse_if.ensures ∙ number-refuse_if _ Argument ∙ ap (λ (n : ℕ). number_if (not (eqb n 0)) 5) c.at.ensures in
+    done-decided Halt a.pages.map a.tag a.pages.bytes.now a.frame.now a.random.now _ (sym own) c.halted.ensures

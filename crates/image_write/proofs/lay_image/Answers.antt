@@ -5,17 +5,12 @@ use Rattle.image_write.proofs.lay_image.Goals as goal
 
 pub returns : goal.returns
 returns c =
-    let key = c in
-    let failed = key in
-    let counters = failed in
-    let pages = counters in
-    let p = pages in
-    let a = p.args in
-    sections a.map a.tag a.store.now a.image.now _ _ _ _ _ _ _ p.requires.store_len
-    pages.lay_section.ensures
-    counters.counters_at.ensures
-    counters.lay_counters.ensures
-    failed.failed_at.ensures
-    failed.lay_failed.ensures
-    key.key_at.ensures
-    key.lay_key.ensures
+    let a = c.args in
+    sections a.map a.tag a.store.now a.image.now _ _ _ _ _ _ _ c.requires.store_len
+    c.lay_section.ensures
+    c.counters_at.ensures
+    c.lay_counters.ensures
+    c.failed_at.ensures
+    (rw c.to_le_bytes.ensures at c.lay_section-2.ensures)
+    c.key_at.ensures
+    c.lay_section-3.ensures

@@ -1,26 +1,25 @@
--- `keys::same_bytes` meets its contract. The loop's invariant: what was compared so far, and the rest, are the whole comparison.
+-- `keys::same_bytes` meets its contract: a byte of each more is compared, until none is left of either.
 -- Assumes nothing.
-use mathlib.Core.Path.{◌≡◌, refl, sym, ◌∙◌}
+use mathlib.Core.Path.{sym, ◌∙◌}
+use mathlib.Core.Logic.{inl, inr}
 use native.Mathlib.Omega.{arith}
-use lib.ListN.{length}
 use Rattle.keys.proofs.Bytes.{same_more, same-all}
 use Rattle.keys.proofs.same_bytes.Goals as goal
 
-pub loop-i-preserved : goal.loop-i-preserved
-loop-i-preserved c =
-    let l = c.loop-i in
-    let start = c in
-    let long : length start.args.a ≡ 16 = start.well_formed.0.1.0.1 in
-    let long2 : length start.args.b ≡ 16 = start.well_formed.1.0.1.0.1 in
-    (omega arith, same_more start.args.a start.args.b l.i l.same (omega arith) (omega arith) ∙ l.invariant.1)
+pub loop-x-preserved : goal.loop-x-preserved
+loop-x-preserved c =
+    let step = c.in-Some.ensures.steps in
+    let before = c.loop-x.invariant in
+    let after = c.next.new.self in (
+      omega (arith, rw (step.0, step.1) at before.0),
+      same_more _ _ _ _ _ _ _ step.0 step.1 ∙ before.1,
+    )
 
 pub returns : goal.returns
 returns c =
-    let l = c.loop-i in
-    let start = c in
-    let long : length start.args.a ≡ 16 = start.well_formed.0.1.0.1 in
-    let long2 : length start.args.b ≡ 16 = start.well_formed.1.0.1.0.1 in
-    sym (same-all start.args.a start.args.b l.i l.same (omega arith) (omega arith)) ∙ l.invariant.1
-
-pub loop-i-init : goal.loop-i-init
-loop-i-init c = (omega arith, refl)
+    let same = c.loop-x.invariant.0 in
+    let all = c.loop-x.invariant.1 in
+    elim c.in-None.ensures.steps [
+      | inl e ↦ sym (same-all _ _ _ (e.1.0) (sym same ∙ e.1.0)) ∙ all
+      | inr e ↦ sym (same-all _ _ _ (same ∙ e.1.0) (e.1.0)) ∙ all
+    ]

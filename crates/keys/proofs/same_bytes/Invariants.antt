@@ -1,13 +1,12 @@
--- `keys::same_bytes` meets its contract. The loop's invariant: what was compared so far, and the rest, are the whole comparison.
+-- `keys::same_bytes` meets its contract. The loop's invariant: what was compared so far, and the rest, are the whole comparison; the rests are of one length.
 use mathlib.Core.Path.{◌≡◌}
 use mathlib.Core.Bool.{◌&&◌}
-use Prim.Native.Nat.{◌-◌, ◌≤◌}
-use lib.ListN.{drop}
+use lib.ListN.{length}
 use Rattle.model.specs.Authentication.{same_bytes}
 use Rattle.keys.proofs.same_bytes.Given as goal
 
-abbrev pub invariant-loop-i : goal.invariant-loop-i
-invariant-loop-i l = (l.i ≤ 16) × (l.same && same_bytes (drop l.i l.a) (drop l.i l.b) ≡ same_bytes l.a l.b)
-
-abbrev pub decreases-loop-i : goal.decreases-loop-i
-decreases-loop-i l = 16 - l.i
+abbrev pub invariant-loop-x : goal.invariant-loop-x
+invariant-loop-x l =
+    let x = l.x-iterator.a.rest.now in
+    let y = l.x-iterator.b.rest.now in
+    (length x ≡ length y) × (l.same && same_bytes x y ≡ same_bytes l.fn.a l.fn.b)

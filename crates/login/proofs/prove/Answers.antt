@@ -1,20 +1,22 @@
 -- `login::prove` meets its contract: 11 at the limit.
 -- Assumes nothing.
 use mathlib.Core.Path.{sym, ◌∙◌}
+use Rattle.numbers.specs.declared.Refusal.TheVariants.{LimitReached}
+use Rattle.numbers.proofs.Checks.{refuse_if-err, refuse_if-ok}
+use Rattle.refusals.proofs.Outcome.{decided-exit}
 use Rattle.login.proofs.PartTwo.{proof-at-limit}
 use Rattle.login.proofs.prove.Goals as goal
 
-pub returns-then-limit_reached : goal.returns-then-limit_reached
-returns-then-limit_reached c =
-    let a = c.args in
-    let reached = sym c.limit_reached.ensures ∙ c.if-limit_reached.true in
-    c.refused.ensures ∙ sym (proof-at-limit a.map a.tag a.s.now a.f.now a.random.now reached)
+pub returns-in_err-refuse_if : goal.returns-in_err-refuse_if
+returns-in_err-refuse_if c =
+    let a = c.args.asked.now in
+    let e = refuse_if-err _ LimitReached _ c.in_err-refuse_if.ensures in
+    decided-exit a.tag _ _ c.from_residual.ensures.1
+    ∙ rw e.1 (proof-at-limit a.pages.map a.tag a.pages.bytes.now a.frame.now a.random.now (sym c.limit_reached-reached.ensures ∙ e.0))
 
 pub judge_answer-requires : goal.judge_answer-requires
-judge_answer-requires c =
-    let start = c in
-    record {
-      in_bounds = start.requires.in_bounds;
-      failed_bound = start.requires.failed_bound;
-      s_value = sym c.limit_reached.ensures ∙ c.if-limit_reached.false;
-    }
+judge_answer-requires c = record {
+  in_bounds = c.requires.in_bounds;
+  failed_bound = c.requires.failed_bound;
+  limit_value = sym c.limit_reached-reached.ensures ∙ refuse_if-ok _ LimitReached _ c.in_ok-refuse_if.ensures;
+}

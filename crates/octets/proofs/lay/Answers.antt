@@ -1,4 +1,4 @@
--- `octets::lay` meets its contract. The loop's invariant: the first i bytes are laid. The measure is what is left of them.
+-- `octets::lay` meets its contract. One byte more is one store more.
 -- Assumes nothing.
 use mathlib.Core.Path.{refl, sym, ap, ◌∙◌}
 use mathlib.Core.List.{List}
@@ -11,21 +11,19 @@ use Rattle.octets.proofs.Laid.{sets-suc}
 use Rattle.octets.proofs.lay.Goals as goal
 
 pub loop-i-init : goal.loop-i-init
-loop-i-init c = (omega arith, refl)
+loop-i-init c = refl
 
 pub loop-i-preserved : goal.loop-i-preserved
 loop-i-preserved c =
     let put = c in
     let l = put.loop-i in
-    let a = put.args in (
-      omega arith,
-      put.put.ensures
-          ∙ ap (λ (w : List ℕ). set w (a.first + l.i) (get_or a.bs.now l.i 0)) l.invariant.1
-          ∙ sym (sets-suc a.s.now a.first a.bs.now l.i (omega arith))
-          ∙ ap (λ (k : ℕ). sets a.s.now a.first (take k a.bs.now)) (sym (add-one l.i)),
-    )
+    let a = put.args in
+    put.put.ensures
+    ∙ ap (λ (w : List ℕ). set w (a.first + l.i) (get_or a.bs.now l.i 0)) l.invariant
+    ∙ sym (sets-suc a.s.now a.first a.bs.now l.i (omega arith))
+    ∙ ap (λ (k : ℕ). sets a.s.now a.first (take k a.bs.now)) (sym (add-one l.i))
 
 pub returns : goal.returns
 returns c =
     let a = c.args in
-    c.loop-i.invariant.1 ∙ ap (sets a.s.now a.first) (take_all c.loop-i.i a.bs.now (omega arith))
+    c.loop-i.invariant ∙ ap (sets a.s.now a.first) (take_all c.loop-i.i a.bs.now (omega arith))

@@ -1,8 +1,6 @@
 -- `player::frame_of` meets its contract: the bytes are laid, and sealed with their CRC_A.
 -- Assumes nothing.
-use mathlib.Core.Path.{◌≡◌, sym, ◌∙◌}
-use native.Mathlib.Omega.{arith}
-use lib.ListN.{length, take}
+use Rattle.std.proofs.Common.{◌≡◌, sym, ◌∙◌, arith, length, take}
 use Rattle.octets.proofs.Laid.{take-sets}
 use Rattle.crc.specs.CrcA.{with_crc}
 use Rattle.crc.proofs.Laws.{with_crc-length}
@@ -11,8 +9,8 @@ use Rattle.script.specs.Line.{byte_at, frame_bytes}
 use Rattle.text.proofs.Listed.{listed-length}
 use Rattle.player.proofs.frame_of.Goals as goal
 
-pub returns : goal.returns
-returns c =
+pub returns-clause-frame_after : goal.returns-clause-frame_after
+returns-clause-frame_after c =
     let a = c.args in
     let bs = frame_bytes a.line.now a.n in
     let long = listed-length (byte_at a.line.now) a.n in
@@ -20,7 +18,4 @@ returns c =
     let seal = c.seal.ensures in
     let laid = sealed {l = a.frame.now} {d = bs} (record { count = sym long; bytes = c.lay_frame.ensures }) (omega arith) seal.reply_after in
     let size : c.seal.result ≡ length (with_crc bs) = omega (arith, seal.value) in
-    record {
-      upper_bound = omega (arith, seal.value);
-      frame_after = (λ i. take (size i) (laid i)) ∙ take-sets a.frame.now (with_crc bs) (omega arith);
-    }
+    (λ i. take (size i) (laid i)) ∙ take-sets a.frame.now (with_crc bs) (omega arith)

@@ -1,31 +1,27 @@
--- `reads::read` meets its contract: by its own number, what it comes to.
+-- `reads::read` meets its contract: by its own check, what it comes to.
 -- Assumes nothing.
 use mathlib.Core.Path.{refl, sym, ap, ◌∙◌}
 use Prim.Native.Nat.{ℕ}
-use Rattle.model.specs.declared.Barred.TheVariants.{Open}
 use Rattle.model.specs.declared.Command.TheVariants.{Read}
 use Rattle.model.specs.declared.Say.TheVariants.{Window}
 use Rattle.model.specs.Numbers.{answered}
 use Rattle.model.specs.Reading.{read_number}
 use Rattle.model.specs.Frame.{command_reason, command_number, command_done}
-use Rattle.model.proofs.Ruling.{done-by, refused-by, read-other}
+use Rattle.model.proofs.Ruling.{read-other}
+use Rattle.refusals.proofs.Outcome.{refused-exit, done-decided}
 use Rattle.reads.proofs.read.Goals as goal
 
-pub returns-then-n-eq0 : goal.returns-then-n-eq0
-unfolding command_number command_done
-returns-then-n-eq0 c =
-    let a = c.args in
-    let s = a.s.now in
-    let page = c.at-p.ensures in
-    let own = sym (c.read_number-n.ensures ∙ ap (read_number a.map a.tag.state s) page) in
-    done-by Read a.map a.tag s a.f.now a.random.now _ _ own c.if-n-eq0.true
-    (c.answered.ensures ∙ ap (λ (p : ℕ). answered a.tag (Window p)) page)
+pub returns-in_err-check_read : goal.returns-in_err-check_read
+unfolding command_reason command_number
+returns-in_err-check_read c =
+    let a = c.args.asked.now in
+    let own = c.in_err-check_read.ensures ∙ ap (read_number a.pages.map a.tag.state a.pages.bytes.now) c.at-p.ensures in
+    refused-exit Read a.pages.map a.tag a.pages.bytes.now a.frame.now a.random.now read-other _ _ c.from_residual.ensures.1 own refl
 
 pub returns : goal.returns
-unfolding command_reason command_number
+unfolding command_number command_done
 returns c =
-    let a = c.args in
-    let s = a.s.now in
-    let page = c.at-p.ensures in
-    let own = sym (c.read_number-n.ensures ∙ ap (read_number a.map a.tag.state s) page) in
-    refused-by Read a.map a.tag s a.f.now a.random.now _ _ own read-other Open refl c.if-n-eq0.false c.refused.ensures
+    let a = c.args.asked.now in
+    let own = sym (c.in_ok-check_read.ensures ∙ ap (read_number a.pages.map a.tag.state a.pages.bytes.now) c.at-p.ensures) in
+    done-decided Read a.pages.map a.tag a.pages.bytes.now a.frame.now a.random.now _ own
+    (c.answered.ensures ∙ ap (λ (p : ℕ). answered a.tag (Window p)) c.at-p.ensures)

@@ -1,51 +1,46 @@
--- `schedule::expand` meets its contract. The loop's invariant: the first 16 + 4n bytes are the key and n words behind it.
--- The measure is what is left of 40.
+-- `schedule::expand` meets its contract. The loop's invariant: the first i words are the key and the words behind it.
 -- Assumes nothing.
-use mathlib.Core.Path.{◌≡◌, refl, sym, ap, ap₂, ◌∙◌}
+use mathlib.Core.Path.{◌≡◌, sym, ap, ap₂, ◌∙◌}
 use mathlib.Core.List.{List, ◌++◌}
-use Prim.Native.Nat.{ℕ, ◌+◌, ◌*◌}
-use native.Mathlib.Numerals.{add-one}
+use Prim.Native.Nat.{ℕ, suc, ◌+◌, ◌-◌, ◌*◌, ◌≤◌}
 use native.Mathlib.Omega.{arith}
-use lib.ListN.{take, length-set}
+use lib.ListN.{take, length-append}
 use lib.Seq.{take_all}
+use borrow.Rule.Slice.PartMut.{same_len_mid}
+use Rattle.std.proofs.lemmas.Slice.{take-put_mid}
+use Rattle.std.proofs.lemmas.List.{take_at}
 use Rattle.fips197.specs.KeyExpansion as key
 use Rattle.fips197.proofs.KeyExpansion.{next_word-take}
-use Rattle.columns.specs.Words.{bytes_of}
-use Rattle.octets.proofs.Stores.{take-four}
 use Rattle.schedule.proofs.expand.Goals as goal
 
-pub loop-n-init : goal.loop-n-init
+-- the schedule w grown by word i, x, is the next one
+grown : (k w x done : List ℕ) (i : ℕ) → 4 ≤ i → take (4 * i) w ≡ key.expand k (i - 4) → x ≡ key.next_word w i → done ≡ take (4 * i) w ++ x
+    → done ≡ key.expand k (i + 1 - 4)
 unfolding key.expand
-loop-n-init c = (omega arith, c.begun-w.type_inv.1.0.1, refl)
+grown k w x done i four front next put =
+    let step : i + 1 - 4 ≡ suc (i - 4) = omega arith in
+    let place : 4 + (i - 4) ≡ i = omega arith in
+    rw (step, place)
+    (put ∙ ap₂ (λ (u v : List ℕ). u ++ v) front (next ∙ sym (next_word-take w i (omega arith)) ∙ ap (λ (u : List ℕ). key.next_word u i) front))
 
--- the schedule w grown by the word x is the next one
-grown : (k w x done : List ℕ) (n : ℕ) → take (16 + 4 * n) w ≡ key.expand k n → x ≡ key.next_word w (4 + n)
-    → done ≡ take (16 + 4 * n) w ++ x → done ≡ key.expand k (n + 1)
+pub loop-i-init : goal.loop-i-init
 unfolding key.expand
-grown k w x done n front next put =
-    let place : 4 * (4 + n) ≡ 16 + 4 * n = omega arith in
-    let all : take (4 * (4 + n)) w ≡ key.expand k n = ap (λ (m : ℕ). take m w) place ∙ front in
-    rw add-one (put ∙ ap₂ (λ (u v : List ℕ). u ++ v) front (next ∙ sym (next_word-take w (4 + n) (omega arith)) ∙ ap (λ (u : List ℕ). key.next_word u (4 + n)) all))
+loop-i-init c =
+    let first = c.copy_from_slice in
+    (length-append first.new.self _ ∙ ap (λ (n : ℕ). n + 160) first.ensures.len, take_at first.new.self _ 16 first.ensures.len ∙ first.ensures.after)
 
-pub loop-n-preserved : goal.loop-n-preserved
-loop-n-preserved c =
-    let l = c.loop-n in
-    let x = c.next_word-x.result in
-    let at = 16 + 4 * l.n in
-    let past : 16 + 4 * (l.n + 1) ≡ at + 4 = omega arith in (
-      omega arith,
-      simp length-set l.invariant.1,
-      grown (take 16 c.begun-w.result) l.w (bytes_of x) _ l.n l.invariant.2 c.next_word-x.ensures
-          (rw past (take-four l.w at x.a x.b x.c x.d (omega arith))),
+pub loop-i-preserved : goal.loop-i-preserved
+loop-i-preserved c =
+    let l = c.loop-i in
+    let next = c.copy_from_slice-in-loop-i in (
+      same_len_mid (4 * l.i) (4 * l.i + 4 - 4 * l.i) l.w next.new.self next.ensures.len ∙ l.invariant.0,
+      grown c.args.key l.w next.new.self _ l.i l.auto.i l.invariant.1 (next.ensures.after ∙ c.next_word-next.ensures)
+          (take-put_mid (4 * l.i) (4 * l.i + 4 - 4 * l.i) l.w next.new.self (4 * (l.i + 1)) (omega arith) (omega arith)),
     )
 
 pub returns : goal.returns
 unfolding key.key_expansion
 returns c =
-    let l = c.loop-n in
-    let all : 16 + 4 * l.n ≡ 176 = omega arith in
-    let forty : l.n ≡ 40 = omega arith in
-    sym (take_all (16 + 4 * l.n) l.w (omega arith)) ∙ l.invariant.2 ∙ ap₂ key.expand c.begun-w.ensures forty
-
-pub next_word-x-requires : goal.next_word-x-requires
-next_word-x-requires c = record { sbox_value = c.requires; le_i = omega arith }
+    let l = c.loop-i in
+    let all : l.i ≡ 44 = omega arith in
+    sym (take_all (4 * l.i) l.w (omega arith)) ∙ l.invariant.1 ∙ ap (λ (i : ℕ). key.expand c.args.key (i - 4)) all

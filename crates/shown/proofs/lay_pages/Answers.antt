@@ -10,6 +10,6 @@ returns c =
     let run = c in
     let a = run.args in
     record {
-      count = sym (shown-length a.map a.st a.s.now a.first a.count);
-      bytes = run.lay_run.ensures ∙ ap (sets a.reply.now 0) (run-pages a.map a.st a.s.now a.first a.count);
+      count = sym (shown-length a.pages.now.map a.st a.pages.now.bytes.now a.first a.count);
+      bytes = run.lay_run.ensures ∙ ap (sets a.reply.now 0) (run-pages a.pages.now.map a.st a.pages.now.bytes.now a.first a.count);
     }

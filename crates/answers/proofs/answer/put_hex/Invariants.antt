@@ -1,14 +1,9 @@
--- `answers::answer::put_hex` meets its contract. The loop's invariant: the first j digits are laid. The measure is what is left of them.
-use mathlib.Core.Path.{◌≡◌}
-use Prim.Native.Nat.{◌-◌, ◌*◌, ◌≤◌}
-use lib.ListN.{length}
-use lib.Seq.{sets}
+-- `answers::answer::put_hex` meets its contract. The loop's invariant: the digits of the bytes so far are put.
+use Rattle.std.proofs.Common.{◌≡◌, ◌++◌, ◌+◌, ◌*◌}
+use Rattle.arrayvec.specs.ArrayVec.{array_vec_len}
 use Rattle.text.specs.Listed.{listed}
 use Rattle.answers.specs.Answer.{letter_at}
 use Rattle.answers.proofs.answer.put_hex.Given as goal
 
-abbrev pub invariant-loop-j : goal.invariant-loop-j
-invariant-loop-j l = (l.j ≤ 2 * length l.bytes) × (l.out ≡ sets l.initial.out l.at (listed (letter_at l.bytes) l.j))
-
-abbrev pub decreases-loop-j : goal.decreases-loop-j
-decreases-loop-j l = 2 * length l.bytes - l.j
+abbrev pub invariant-loop-b : goal.invariant-loop-b
+invariant-loop-b l = (l.text.items ≡ l.initial.text.items ++ listed (letter_at l.bytes) (2 * l.b-index)) × (array_vec_len l.text ≡ array_vec_len l.initial.text + 2 * l.b-index)

@@ -9,4 +9,4 @@ pub returns : goal.returns
 returns c =
     let run = c in
     let a = run.args in
-    run.lay_run.ensures ∙ ap (sets a.reply.now a.at) (run-page a.map a.st a.s.now a.p)
+    run.lay_run.ensures ∙ ap (sets a.reply.now a.at) (run-page a.pages.now.map a.st a.pages.now.bytes.now a.p)

@@ -14,9 +14,9 @@ returns c =
     let last = third in
     let a = last.args in
     record {
-      count = sym (window-length a.map a.st a.s.now a.p);
+      count = sym (window-length a.pages.now.map a.st a.pages.now.bytes.now a.p);
       bytes =
-          window-laid a.map a.st a.s.now a.reply.now a.p last.last_readable-last.ensures third.page_after-second.ensures
+          window-laid a.pages.now.map a.st a.pages.now.bytes.now a.reply.now a.p last.last_readable-last.ensures third.page_after-second.ensures
           third.page_after-third.ensures third.page_after-fourth.ensures p1.lay_page.ensures p2.lay_page-2.ensures
           p3.lay_page-3.ensures p4.lay_page-4.ensures;
     }

@@ -1,0 +1,2 @@
+-- What the program `vectors` reads of a text about an answer.
+pub mod Told

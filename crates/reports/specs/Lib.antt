@@ -1,0 +1,2 @@
+-- What the programs that compare read of a text.
+pub mod Digits
