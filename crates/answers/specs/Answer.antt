@@ -7,8 +7,8 @@
 --     answer_text n k ds     the line that is printed for the number n, the place k and the data ds
 --
 -- Assumes nothing.
-use Rattle.std.specs.Prelude.{List, [], ◌∷◌, ◌++◌, cond, ℕ, zero, suc, ◌+◌, ◌*◌, ◌/◌, ◌%◌, ltb, eqb, length, get_or}
-use Rattle.text.specs.Listed.{listed}
+use Rattle.std.specs.Prelude.{List, [], ◌∷◌, ◌++◌, cond, ℕ, zero, suc, ◌+◌, ◌*◌, ◌/◌, ◌%◌, ltb, eqb, length, get_or, map}
+use Rattle.std.specs.List.{range_with_len}
 
 -- ASCII: 0 is 48, a is 97
 unfoldable pub letter_of : ℕ → ℕ
@@ -25,7 +25,7 @@ unfoldable pub letter_at : List ℕ → ℕ → ℕ
 letter_at ds j = letter_of (half_at ds j)
 
 abbrev pub hex_text : List ℕ → List ℕ
-hex_text ds = listed (letter_at ds) (2 * length ds)
+hex_text ds = map (letter_at ds) (range_with_len 0 (2 * length ds))
 
 -- a space, 32, and the digits; nothing for no data
 unfoldable pub data_text : List ℕ → List ℕ

@@ -8,7 +8,8 @@ use arrayvec::ArrayVec;
 // No answer is longer: a number, a place and the digits of 242 bytes.
 pub type Text = ArrayVec<u8, 490>;
 
-// A hexadecimal digit. Digits are made by hand here and below: std's formatting promises no bytes, and `answer` promises them.
+// A hexadecimal digit. Digits are made by hand here and below, and `write!` is no plainer: it writes into a str and may fail, a text is bytes, and `number_text`
+// is no decimal number from 100 on.
 #[tactic(auto, unfolding(crate::specs::Answer::letter_of))]
 fn letter(d: u8) -> u8
     requires { d < 16 }
@@ -24,7 +25,7 @@ fn letters(b: u8) -> [u8; 2]
     [letter(b / 16), letter(b % 16)]
 }
 
-// The digits of a number below 100.
+// The digits of a number below 100. Each `put` asks for the room that it takes: no type has that bound, which is of what is put.
 #[tactic(auto, unfolding(crate::specs::Answer::number_text))]
 fn put_number(text: &mut Text, n: u8)
     requires { array_vec_len text.old ≤ 488 }

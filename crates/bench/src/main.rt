@@ -9,7 +9,8 @@ use std::env::Env;
 
 // An image that is refused or can't be opened is answered by its number and nothing more. A name that is no UTF-8 can't be opened, nor can a missing one.
 // Where an answer can't be written there is nothing left to do.
-// The name has a count beside its buffer: `rt.arg` reads into a buffer, and a longer name than that had no file before either.
+// The name has a count beside its buffer, as `rt.arg` reads it: `env::args` would give Strings, but refuses all arguments where one is no UTF-8, so that the
+// program would answer otherwise. A longer name than that had no file before either.
 fn main(rt: HostRuntime) {
     let mut name = [0; 4096];
     let n = rt.arg(1, &mut name).unwrap_or(0);

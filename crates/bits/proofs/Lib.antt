@@ -3,4 +3,3 @@ pub mod Xor
 pub mod OneWay
 pub mod Test
 pub mod Additive
-pub mod Neither

@@ -18,7 +18,8 @@ use borrow.Author.Tests.{ne_eqb}
 use lib.Dec.{eqb}
 use lib.ListN.{length, get_or, take, drop, length-append, length-drop}
 use lib.Seq.{take_all, take_at, drop-cons, drop-append-add}
-use Rattle.fields.proofs.Fields.{number-two, number-four, block-byte}
+use Rattle.fields.proofs.Fields.{number-two, number-four}
+use Rattle.fips197.proofs.Cbc.{block-byte}
 use Rattle.model.specs.declared.Tag.{Tag}
 use Rattle.model.specs.declared.State.{State}
 use Rattle.model.specs.declared.State.TheVariants.{Waiting, Active, Traceable, Authenticated, Challenged, Unknown}

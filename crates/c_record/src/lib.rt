@@ -20,11 +20,11 @@ fn state_of(number: u8, key: u8) -> State
         2 => State::Traceable,
         3 => State::Authenticated,
         4 => State::Challenged(key),
-        5..=255 => State::Unknown(number),
+        _ => State::Unknown(number),
     }
 }
 
-// The record that the bytes hold.
+// The record that the bytes hold. Its three counters stand one by one: `from_fn` would hide their places, and is no plainer.
 #[tactic(auto, unfolding(crate::specs::Record::record_of))]
 pub fn record_of(b: &[u8]) -> Tag
     ensures { result ≡ record_of b.now }

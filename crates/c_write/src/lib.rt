@@ -17,7 +17,7 @@ pub fn put_record(b: &mut [u8; RECORD_SIZE], tag: Tag)
     octets::lay(b, 32, &tag.challenge);
 }
 
-// The record after a call: 1 and 10 leave the buffer unwritten.
+// The record after a call: 1 and 10 leave the buffer unwritten. Of a number, as the definition is.
 #[tactic(auto, unfolding(c_record::specs::Record::keeps, c_record::specs::Record::handed_back))]
 pub fn hand_back(b: &mut [u8; RECORD_SIZE], number: u8, next: Tag)
     ensures { b.new ≡ handed_back number next b.old }

@@ -13,7 +13,7 @@ pub fn sub_bytes(s: [u8; 16]) -> [u8; 16]
     s.map(sboxes::substitute)
 }
 
-// Each byte by the inverse of the S-box.
+// Each byte by the inverse of the S-box, a step of its own in the standard.
 #[tactic(auto, unfolding(fips197::specs::State::inv_sub_bytes))]
 pub fn inv_sub_bytes(s: [u8; 16]) -> [u8; 16]
     ensures { result ≡ inv_sub_bytes s }
@@ -46,13 +46,12 @@ pub fn add_round_key(w: &[u8; 176], n: usize, s: [u8; 16]) -> [u8; 16]
     array::from_fn(|i| s[i] ^ w[16 * n + i])
 }
 
-// The sixteen bytes of s from byte n on; a byte past its end counts 0. fields::block_of is apart: its crate uses no AES, and it reads at any place of an image.
-#[tactic(auto, unfolding(fips197::specs::Cbc::block_of))]
+// The sixteen bytes of s from byte n on; a byte past its end counts 0. As fields::block_of: each a line over `bytes_from`, and callers name both.
+#[tactic(auto, using(fips197::proofs::Cbc::block_of_bytes))]
 pub fn block_of(s: &[u8], n: usize) -> [u8; 16]
-    requires { n < 2048 }
     ensures { result ≡ block_of s.now n }
 {
-    array::from_fn(|i| s.get(n + i).copied().unwrap_or(0))
+    octets::bytes_from(s, n)
 }
 
 #[tactic(auto, unfolding(fips197::specs::Cbc::xor_block))]

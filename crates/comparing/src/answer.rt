@@ -1,5 +1,7 @@
 // An answer, compared all at once: the number, the reply, and the whole reply buffer.
-ghost use Rattle.std.specs.Prelude.{◌≡◌, ◌%◌, get_or};
+ghost use Rattle.std.specs.Prelude.{◌≡◌, ◌/◌, ◌%◌, get_or, length, min, replicate};
+ghost use Rattle.std.proofs.lemmas.List.Edits.{sets};
+ghost use Rattle.reports.specs.Digits.{octets_from};
 ghost use Rattle.text.specs.Digits.{digit_of};
 ghost use Rattle.comparing.specs.Told.{reply_of};
 
@@ -13,7 +15,7 @@ pub const SIZE: usize = 242;
 // A buffer is full of this before a call, so that a byte that was written shows.
 pub const UNWRITTEN: u8 = 0x5a;
 
-// What a call answered, or is to answer: its number, the reply, and the reply buffer.
+// What a call answered, or is to answer: its number, which is document 01's, the reply, and the reply buffer.
 #[derive(Clone, Copy, PartialEq, Eq)]
 pub struct Told {
     pub number: u8,
@@ -26,6 +28,7 @@ impl Told {
     pub fn of_texts(number: &[u8], reply: &[u8]) -> Told
         ensures number_value { result.number ≡ digit_of (get_or number.now 0 0) % 16 }
         ensures reply_value { result.reply ≡ reply_of reply.now }
+        ensures buffer_value { result.buffer ≡ sets (replicate 242 0x5a) 0 (octets_from reply.now 0 (min (length reply.now / 2) 242)) }
     {
         let mut buffer = [UNWRITTEN; SIZE];
         digits::lay(reply, 0, &mut buffer);
@@ -36,7 +39,7 @@ impl Told {
         }
     }
 
-    // The number, the reply and what was written of the reply buffer: what follows is as it was before the call.
+    // The number, the reply and what was written of the reply buffer: what follows is as it was before the call. By `io`, as reports::report says.
     fn print(&self) {
         let end = self
             .buffer
@@ -70,7 +73,7 @@ fn reply_of(text: &[u8]) -> Reply
     }
 }
 
-// The line of an answer.
+// The line of an answer: as `report::line`, but an answer is no run of bytes.
 pub fn line(name: &[u8], got: &Told, expected: &Told) {
     let same = got == expected;
     report::verdict(name, same);

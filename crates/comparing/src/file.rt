@@ -1,29 +1,23 @@
 // An image file, document 01: loaded into a tag, and saved from it.
-ghost use Rattle.std.specs.Prelude.{◌<◌, length};
-
 use crate::answer;
 use model::Tag;
 use reports::report::STDOUT_FILENO;
 use reports::{digits, parts, report};
 
 // A change of a file: its first byte is a place, and the others are laid over the file from there on.
-fn change(file: &mut [u8], text: &[u8])
-    requires { length file.old < 2048 }
-{
+fn change(file: &mut [u8], text: &[u8]) {
     let at = usize::from(text::digits::octet(text, 0)).min(file.len());
     digits::lay(text, 1, &mut file[at..]);
 }
 
 // The file of a text, with up to two changes.
-fn lay(image: &[u8], changes: &[u8], file: &mut [u8])
-    requires { length file.old < 2048 }
-{
+fn lay(image: &[u8], changes: &[u8], file: &mut [u8]) {
     digits::lay(image, 0, file);
     change(file, parts::part(changes, b';', 0));
     change(file, parts::part(changes, b';', 1));
 }
 
-// The line of a number that is to be 0.
+// The line of a number that is to be 0. By `io`, as reports::report says.
 fn number_line(name: &[u8], call: &[u8], number: u8) {
     io::write_all(STDOUT_FILENO, name);
     report::line(call, &[number], &[0]);

@@ -15,7 +15,8 @@ use lib.ListN.{get_or}
 use Rattle.bits.proofs.Additive.{Additive}
 use Rattle.bits.proofs.Bit.{Digit, off, on, digit-of}
 use Rattle.bits.proofs.Test.{equal-below}
-use Rattle.bits.proofs.Xor.{xor_assoc, xor-swap}
+use Rattle.std.specs.Int.Bits.{xor_assoc}
+use Rattle.bits.proofs.Xor.{xor-swap}
 use Rattle.crc.specs.CrcA.{feed_back, crc_bit, crc_bits}
 use Rattle.crc.specs.HalfBytes.{half_table, HalfBytesRight}
 use Rattle.crc.proofs.Laws.{shift-out}

@@ -2,6 +2,7 @@
 --
 --   fits-failed    a failed count that can be raised
 --   whole_long     a frame with a code byte
+--   known_code     a command that is told, with the length of its payload
 --
 -- Assumes nothing.
 use mathlib.Core.Path.{◌≡◌}
@@ -12,9 +13,11 @@ use native.Mathlib.Omega.{arith}
 use borrow.Author.Tests.{ltb-false}
 use lib.Dec.{ltb}
 use lib.ListN.{length}
-use Rattle.bits.proofs.Neither.{neither_left}
+use Rattle.std.specs.Prelude.{Option, Some, None, IsSomeAnd}
+use Rattle.std.proofs.lemmas.Bool.{or_parts}
 use Rattle.model.specs.declared.Map.{Map}
 use Rattle.model.specs.declared.Tag.{Tag}
+use Rattle.model.specs.declared.Command.{Command}
 use Rattle.model.specs.Telling.{damaged}
 use Rattle.model.specs.Frame.{misfit}
 use Rattle.model.proofs.Image.{bounded}
@@ -25,4 +28,8 @@ fits-failed m tag s random room fits = let few = (bounded tag (fits-possible m t
 
 pub whole_long : (f : List ℕ) → damaged f ≡ false → 1 ≤ length f
 unfolding damaged
-whole_long f h = let three : 3 ≤ length f = ltb-false _ _ (neither_left (ltb (length f) 3) _ (neither_left _ _ h)) in omega arith
+whole_long f h = let three : 3 ≤ length f = ltb-false _ _ (or_parts (ltb (length f) 3) _ (or_parts _ _ h).0).0 in omega arith
+
+pub known_code : (t : Option (Command × ℕ)) (c : Command) → IsSomeAnd t (λ known. known.0 ≡ c) → (k : ℕ) × (t ≡ Some (c, k))
+known_code (Some (d, k)) c same = (k, (λ i. Some (same i, k)))
+known_code None c same = absurd same

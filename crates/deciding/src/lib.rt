@@ -31,37 +31,31 @@ fn command(c: Command, asked: &Asked) -> Result<Decision, RefusedFrame>
     }
 }
 
-// The checks in their order: the first that applies refuses.
-fn judged(
-    pages: &Pages,
-    tag: Tag,
-    f: &[u8],
-    random: &[u8],
-    room: usize,
-) -> Result<Decision, RefusedFrame>
-    ensures { decided tag result ≡ decide pages.now.map tag pages.now.bytes.now f.now random.now room }
+// The checks in their order: the first that applies refuses. room is the reply buffer's length.
+fn judged(asked: &Asked, room: usize) -> Result<Decision, RefusedFrame>
+    ensures { decided asked.now.tag result ≡ decide asked.now.pages.map asked.now.tag asked.now.pages.bytes.now asked.now.frame.now asked.now.random.now room }
 {
-    let misfit = judge::frame::misfit(pages, tag, random, room);
+    let state = asked.tag.state;
+    let misfit = judge::frame::misfit(&asked.pages, asked.tag, asked.random, room);
     refuse_if(misfit, Refusal::Misfit)?;
-    let waiting = record::is_waiting(tag.state);
+    let waiting = record::is_waiting(state);
     refuse_if(waiting, Refusal::Waiting)?;
-    let damaged = telling::damaged(f);
+    let damaged = telling::damaged(asked.frame);
     refuse_if(damaged, Refusal::Damaged)?;
-    let told = telling::told(octets::at(f, 0));
-    telling::check_told(told, tag.state, f.len())?;
-    let Some((c, _)) = told else { unreachable!() };
+    let told = telling::told(octets::at(asked.frame, 0));
+    let c = telling::check_told(told, state, asked.frame.len())?;
+    command(c, asked)
+}
+
+// What a frame comes to. Its parts are passed apart, as the definition takes them.
+pub fn decide(pages: &Pages, tag: Tag, f: &[u8], random: &[u8], room: usize) -> Decision
+    ensures { result ≡ decide pages.now.map tag pages.now.bytes.now f.now random.now room }
+{
     let asked = Asked {
         pages: *pages,
         tag,
         frame: f,
         random,
     };
-    command(c, &asked)
-}
-
-// What a frame comes to.
-pub fn decide(pages: &Pages, tag: Tag, f: &[u8], random: &[u8], room: usize) -> Decision
-    ensures { result ≡ decide pages.now.map tag pages.now.bytes.now f.now random.now room }
-{
-    refusals::decided(tag, judged(pages, tag, f, random, room))
+    refusals::decided(tag, judged(&asked, room))
 }

@@ -62,13 +62,12 @@ pub fn tag_after(tag: Tag, d: Decision) -> Tag
     ensures { result ≡ tag_after tag d }
 {
     let counters = counters_after(tag.counters, d.effect);
-    let originality = tag.originality;
     let challenge = d.challenge;
     Tag {
         counters,
         failed: failed_after(tag.failed, d.effect),
-        originality,
         state: d.state,
         challenge,
+        ..tag
     }
 }

@@ -2,22 +2,19 @@
 --
 --   number-two, number-three    a number of two and of three bytes
 --   number-four                 a number of four bytes, by its two halves
---   block-byte, block-long      a block by its bytes, of which there are 16
---   block_of_bytes              16 bytes that are read one by one are the block
 --   block-read                  the bytes of a list that is the block
 --
 -- Assumes nothing.
-use mathlib.Core.Path.{◌≡◌, refl, sym, ap, ◌∙◌}
-use Rattle.std.proofs.lemmas.List.{ext_get_or}
+use mathlib.Core.Path.{◌≡◌, ap, ◌∙◌}
 use mathlib.Core.List.{List}
-use Prim.Native.Nat.{ℕ, suc, ◌+◌, ◌*◌, ◌/◌, ◌%◌, ◌≤◌, ◌<◌}
+use Prim.Native.Nat.{ℕ, suc, ◌+◌, ◌*◌, ◌≤◌, ◌<◌}
 use native.Mathlib.Numerals.{add-one}
 use native.Mathlib.Omega.{arith}
 use native.Mathlib.Decide.{dec_lt}
 use lib.ListN.{length, get_or, drop_of_length-le, get_or-eq_default}
 use lib.Seq.{drop-cons, take-nil}
 use Rattle.fips197.specs.Cbc.{block_of}
-use Rattle.fips197.proofs.State.{get_or-state}
+use Rattle.fips197.proofs.Cbc.{block-byte}
 use Rattle.model.specs.Image.{number_at}
 
 -- the first byte, and the rest; past the end both are 0
@@ -44,21 +41,6 @@ number-four l n =
     let e : n + 1 + 1 ≡ n + 2 = omega arith in
     let e' : n + 1 + 2 ≡ n + 2 + 1 = omega arith in
     omega (arith, number_more l n 3, rw (e, e') at (number-three l (n + 1)), number-two l n, number-two l (n + 2))
-
-pub block-byte : (l : List ℕ) (n k : ℕ) → k < 16 → get_or (block_of l n) k 0 ≡ get_or l (n + k) 0
-unfolding block_of
-block-byte l n k h =
-    let place : k % 4 + 4 * (k / 4) ≡ k = omega arith in
-    get_or-state (λ r c. get_or l (n + (r + 4 * c)) 0) k h ∙ ap (λ (j : ℕ). get_or l (n + j) 0) place
-
-pub block-long : (l : List ℕ) (n : ℕ) → length (block_of l n) ≡ 16
-unfolding block_of
-block-long l n = refl
-
-pub block_of_bytes : (l : List ℕ) (n : ℕ) (b : List ℕ) → length b ≡ 16 → ((k : ℕ) → k < 16 → get_or b k 0 ≡ get_or l (n + k) 0) → b ≡ block_of l n
-block_of_bytes l n b long h =
-    ext_get_or 0 b (block_of l n) (long ∙ sym (block-long l n))
-    (λ k lt. let lt' : k < 16 = omega arith in h k lt' ∙ sym (block-byte l n k lt'))
 
 pub block-read : (l : List ℕ) (n : ℕ) (b : List ℕ) → b ≡ block_of l n → (k : ℕ) → k < 16 → get_or b k 0 ≡ get_or l (n + k) 0
 block-read l n b e k h = ap (λ (x : List ℕ). get_or x k 0) e ∙ block-byte l n k h

@@ -1,31 +1,29 @@
 -- CRC_A behind what stands at the start of the reply buffer.
 --
---   two-behind    the first n bytes and two more behind them, laid over their own buffer, are two stores
+--   behind        the first n bytes and more behind them, laid over their own buffer, are those behind them laid
 --   laid-length   laying bytes leaves the buffer's length
 --   sealed-count, sealed
 --                 bytes that were laid and then sealed are counted and laid with their CRC_A
 --
 -- Assumes nothing.
 use mathlib.Core.Path.{◌≡◌, ap, ◌∙◌}
-use mathlib.Core.List.{List, [], ◌∷◌, ◌++◌}
+use mathlib.Core.List.{List, ◌++◌}
 use Prim.Native.Nat.{ℕ, ◌+◌, ◌≤◌}
 use native.Mathlib.Nat.{zero-add}
-use native.Mathlib.Numerals.{add-one}
 use native.Mathlib.Omega.{arith}
-use lib.ListN.{length, take, set}
+use lib.ListN.{length, take}
 use lib.Seq.{sets, length-sets, length-take-le}
 use Rattle.octets.proofs.Laid.{sets-append, sets-own, take-sets, sets_over}
 use Rattle.crc.specs.CrcA.{crc_a, on_air, with_crc}
 use Rattle.crc.proofs.Laws.{with_crc-length}
 use Rattle.framing.specs.Laid.{Laid}
 
-pub two-behind : (s : List ℕ) (n a b : ℕ) → n ≤ length s → sets s 0 (take n s ++ (a ∷ b ∷ [])) ≡ set (set s n a) (n + 1) b
-two-behind s n a b h =
+pub behind : (s bs : List ℕ) (n : ℕ) → n ≤ length s → sets s 0 (take n s ++ bs) ≡ sets s n bs
+behind s bs n h =
     let place : 0 + length (take n s) ≡ n = zero-add (length (take n s)) ∙ length-take-le n s h in
-    sets-append s 0 (take n s) (a ∷ b ∷ [])
-    ∙ ap (λ (t : List ℕ). sets t (0 + length (take n s)) (a ∷ b ∷ [])) (sets-own s n h)
-    ∙ ap (λ (k : ℕ). sets s k (a ∷ b ∷ [])) place
-    ∙ rw add-one
+    sets-append s 0 (take n s) bs
+    ∙ ap (λ (t : List ℕ). sets t (0 + length (take n s)) bs) (sets-own s n h)
+    ∙ ap (λ (k : ℕ). sets s k bs) place
 
 pub laid-length : {l mid d : List ℕ} {n : ℕ} → Laid l mid n d → length mid ≡ length l
 laid-length {l} {mid} {d} laid = ap length laid.bytes ∙ length-sets l 0 d

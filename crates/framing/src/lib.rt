@@ -13,7 +13,6 @@ pub fn seal(reply: &mut [u8], n: usize) -> usize
     ensures reply_after { reply.new ≡ sets reply.old 0 (with_crc (take n reply.old)) }
 {
     let trailer = crc::on_air(crc::crc_a(&reply[..n]));
-    octets::put(reply, n, trailer[0]);
-    octets::put(reply, n + 1, trailer[1]);
+    octets::lay(reply, n, &trailer);
     n + 2
 }

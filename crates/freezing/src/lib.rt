@@ -84,7 +84,7 @@ pub fn frozen_locks(b: u8) -> Masks
     frozen(&FREEZE, b)
 }
 
-// What the block-lock bits of lock byte 4 freeze: the same over the other table, by the name that callers use.
+// What the block-lock bits of lock byte 4 freeze: the same over the other table. Callers would else have to name the table, which is no plainer.
 #[tactic(auto, unfolding(model::specs::Writing::pair_freeze_rows))]
 pub fn frozen_pair_locks(b: u8) -> Masks
     ensures { result ≡ frozen pair_freeze_rows b }

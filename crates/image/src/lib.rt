@@ -59,7 +59,7 @@ fn take_pages(map: Map, image: &[u8], store: &mut [u8])
     ensures { store.new ≡ store_of map image.now }
 {
     let end = sizes::counters_at(map);
-    octets::lay(store, 0, &image[1..end]);
+    store.copy_from_slice(&image[1..end]);
 }
 
 // 10 and 12 hand back the zero record and leave the store.

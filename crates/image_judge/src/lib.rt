@@ -10,7 +10,8 @@ use memory::record::HIGHEST_FAILED;
 use model::Map;
 use sections::sizes;
 
-// Each section begins with the count of what it holds.
+// Each section begins with the count of what it holds. The map and the bytes are passed apart, here and in `image_read` and `image`, as the definitions have them:
+// what is judged is no image yet.
 #[tactic(auto, unfolding(sections::specs::Sections::counts_right))]
 fn counts_right(map: Map, i: &[u8]) -> bool
     ensures { result ≡ counts_right map i.now }

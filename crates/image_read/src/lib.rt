@@ -10,7 +10,7 @@ use fields::{block_of, number2, number3};
 use model::{Map, State, Tag};
 use sections::sizes;
 
-// The three counters.
+// The three counters, one by one: `from_fn` would hide their places, and is no plainer.
 #[tactic(auto, unfolding(sections::specs::Sections::counters_of))]
 fn counters_of(map: Map, i: &[u8]) -> [u32; 3]
     ensures { result ≡ counters_of map i.now }

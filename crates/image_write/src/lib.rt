@@ -20,7 +20,7 @@ fn lay_section(image: &mut [u8], at: usize, count: u8, bytes: &[u8])
     octets::lay(image, at + 1, bytes);
 }
 
-// The three low bytes of a number, low byte first. As in reply's lay_count: one line each, and a shared function would be a crate more for both.
+// The three low bytes of a number, low byte first: an array, for `map` and `as_flattened`.
 fn three_bytes(n: u32) -> [u8; 3]
     ensures { result ≡ low_first 3 n }
 {

@@ -10,21 +10,17 @@ ghost use Rattle.model.specs.Authentication.{page_key, key_of, rotated, same_byt
 use aes::TwoBlocks;
 use memory::pages::Pages;
 use model::Tag;
+use std::array::from_fn;
 
 // The sixteen bytes from offset i on, last byte first.
 #[tactic(auto, unfolding(model::specs::Authentication::page_key))]
 fn page_key(s: &[u8], i: usize) -> [u8; 16]
-    requires { i < 65536 }
     ensures { result ≡ page_key s.now i }
 {
-    let mut key = [0; 16];
-    for (j, byte) in key.iter_mut().enumerate() {
-        *byte = octets::at(s, i + (15 - j));
-    }
-    key
+    from_fn(|j| octets::behind(s, i, 15 - j))
 }
 
-// Key number k: DataProtKey and UIDRetrKey from their pages, the originality key from the record.
+// Key number k, a number as the definitions and the record for C have it: DataProtKey and UIDRetrKey from their pages, the originality key from the record.
 #[tactic(auto, unfolding(model::specs::Authentication::key_of))]
 pub fn key_of(pages: &Pages, tag: Tag, k: u8) -> [u8; 16]
     ensures { result ≡ key_of pages.now.map tag pages.now.bytes.now k }

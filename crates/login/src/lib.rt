@@ -17,7 +17,7 @@ use numbers::{Refusal, refuse_if};
 use refusals::RefusedFrame;
 use refusals::asked::Asked;
 
-// The state that key number k leads to.
+// The state that key number k leads to. A number, as the definition has it, and the record for C can hold any.
 fn logged_in(k: u8) -> State
     ensures { result ≡ logged_in k }
 {

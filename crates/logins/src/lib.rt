@@ -31,6 +31,8 @@ fn session(text: &[u8]) {
     );
 }
 
+// A function each: as rows of one table their comments would stand beside texts of ten lines, and no error would name the session.
+
 // 009 Table 17 in full: the key is zero.
 fn table_17() {
     session(

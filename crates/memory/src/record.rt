@@ -23,6 +23,7 @@ pub fn state_number(st: State) -> u8
     }
 }
 
+// The four tests of a state by `matches!`: with `==` the fourth would need a key number, and the four are plainer alike.
 pub fn is_waiting(st: State) -> bool
     ensures { result ≡ is_waiting st }
 {
@@ -67,10 +68,7 @@ pub fn exists(st: State) -> bool
 pub fn possible(tag: Tag) -> bool
     ensures { result ≡ possible tag }
 {
-    let [c0, c1, c2] = tag.counters;
-    c0 <= HIGHEST_COUNTER
-        && c1 <= HIGHEST_COUNTER
-        && c2 <= HIGHEST_COUNTER
+    tag.counters.iter().all(|c| *c <= HIGHEST_COUNTER)
         && tag.failed <= HIGHEST_FAILED
         && exists(tag.state)
 }

@@ -33,7 +33,7 @@ use Rattle.model.proofs.Numbers.{decide-number}
 use Rattle.model.proofs.Misfit.{fits-possible}
 use Rattle.model.proofs.Demand1.{refusal-ends}
 use Rattle.model.proofs.Carried.{first-zero, number_if-zero, carried}
-use Rattle.model.proofs.ProofExact.{both_true}
+use Rattle.std.proofs.lemmas.Bool.{and_parts}
 pub use Rattle.model.proofs.ProofExact.{proof-exact}
 pub use Rattle.model.proofs.Hiding.{random-id-hides, keys-hidden}
 
@@ -46,10 +46,10 @@ counter-known tag s f h = ltb-false 2 (get_or f 1 0) (number_if-zero _ 4 (first-
 counter-bounded : (tag : Tag) → possible tag ≡ true → (n : ℕ) → n ≤ 2 → counter tag n ≤ highest_counter
 unfolding possible
 counter-bounded tag h n few =
-    let all = (both_true _ (exists tag.state) h).0 in
-    let three = (both_true _ (leb tag.failed highest_failed) all).0 in
-    let two = both_true _ (leb (counter tag 2) highest_counter) three in
-    let one = both_true (leb (counter tag 0) highest_counter) (leb (counter tag 1) highest_counter) two.0 in
+    let all = (and_parts _ (exists tag.state) h).0 in
+    let three = (and_parts _ (leb tag.failed highest_failed) all).0 in
+    let two = and_parts _ (leb (counter tag 2) highest_counter) three in
+    let one = and_parts (leb (counter tag 0) highest_counter) (leb (counter tag 1) highest_counter) two.0 in
     pick n few (leb-true _ _ one.0) (leb-true _ _ one.1) (leb-true _ _ two.1)
   where
     pick : (n : ℕ) → n ≤ 2 → counter tag 0 ≤ highest_counter → counter tag 1 ≤ highest_counter → counter tag 2 ≤ highest_counter

@@ -9,10 +9,10 @@ use mathlib.Core.Path.{◌≡◌}
 use mathlib.Core.List.{List}
 use mathlib.Core.Bool.{Bool, true, false, not, ◌||◌}
 use Prim.Native.Nat.{ℕ, ◌≤◌}
+use Rattle.std.proofs.lemmas.Bool.{or_parts}
 use borrow.Author.Tests.{ltb-false, eqb-true, not-false}
 use lib.Dec.{ltb, eqb}
 use lib.ListN.{length}
-use Rattle.bits.proofs.Neither.{neither_left, neither_right}
 use Rattle.model.specs.declared.Map.{Map}
 use Rattle.model.specs.declared.Tag.{Tag}
 use Rattle.model.specs.Map.{store_size, reply_size}
@@ -38,10 +38,10 @@ module _ (m : Map) (tag : Tag) (s random : List ℕ) (room : ℕ) (fits : misfit
   none = fits
 
   pub fits-room : reply_size m ≤ room
-  fits-room = ltb-false _ _ (neither_right size short (neither_left (size || short) few (neither_left _ odd none)))
+  fits-room = ltb-false _ _ (or_parts size short (or_parts (size || short) few (or_parts _ odd none).0).0).1
 
   pub fits-random : length random ≡ 16
-  fits-random = eqb-true _ _ (not-false _ (neither_right (size || short) few (neither_left _ odd none)))
+  fits-random = eqb-true _ _ (not-false _ (or_parts (size || short) few (or_parts _ odd none).0).1)
 
   pub fits-possible : possible tag ≡ true
-  fits-possible = not-false _ (neither_right (size || short || few) odd none)
+  fits-possible = not-false _ (or_parts (size || short || few) odd none).1

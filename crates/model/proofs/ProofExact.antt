@@ -1,6 +1,5 @@
 -- Part 2 of the authentication is answered 0 exactly for the right ciphertext: the claim ProofExact of specs/CallClaims.antt.
 --
---   both_true                           of an && that is true, both sides are
 --   same_bytes-equal, equal-same_bytes    same_bytes tells whether two lists are equal
 --   key-block, sent-block, rotated-block, deciphered-block    what part 2 works on is blocks
 --   enciphered, deciphered              a block that deciphers to p is p enciphered, and the other way round
@@ -10,8 +9,9 @@
 -- Assumes nothing.
 use mathlib.Core.Path.{◌≡◌, refl, sym, ap, ◌∙◌}
 use mathlib.Core.List.{List, [], ◌∷◌}
-use mathlib.Core.Bool.{Bool, true, false, not, ◌&&◌, true≢false}
+use mathlib.Core.Bool.{Bool, true, false, not, true≢false}
 use Prim.Native.Nat.{ℕ, zero, suc, ◌+◌, ◌-◌, ◌*◌, ◌%◌}
+use Rattle.std.proofs.lemmas.Bool.{and_parts}
 use borrow.Author.Tests.{eqb-true, eq-eqb, not-false}
 use lib.Dec.{eqb}
 use lib.ListN.{get_or, drop}
@@ -38,17 +38,13 @@ use Rattle.model.proofs.Numbers.{decide-number, decide-done}
 use Rattle.model.proofs.Carried.{number_if-zero}
 use Rattle.model.proofs.Sound.{zeros-block}
 
-pub both_true : (a b : Bool) → a && b ≡ true → (a ≡ true) × (b ≡ true)
-both_true true b h = (refl, h)
-both_true false b h = absurd (true≢false (sym h))
-
 same_bytes-equal : (x y : List ℕ) → same_bytes x y ≡ true → x ≡ y
 unfolding same_bytes
 same_bytes-equal [] [] h = refl
 same_bytes-equal [] (y ∷ ys) h = absurd (true≢false (sym h))
 same_bytes-equal (x ∷ xs) [] h = absurd (true≢false (sym h))
 same_bytes-equal (x ∷ xs) (y ∷ ys) h =
-    let e = both_true (eqb x y) (same_bytes xs ys) h in
+    let e = and_parts (eqb x y) (same_bytes xs ys) h in
     cc (eqb-true x y e.0, same_bytes-equal xs ys e.1)
 
 equal-same_bytes : (x : List ℕ) → same_bytes x x ≡ true

@@ -11,11 +11,11 @@ use mathlib.Core.Bool.{false}
 use Prim.Native.Nat.{ℕ, ◌*◌, ◌≤◌, ◌<◌}
 use native.Mathlib.Nat.{mod-eq_of_lt}
 use native.Mathlib.Omega.{arith}
+use Rattle.std.proofs.lemmas.Bool.{or_parts}
 use borrow.Author.Tests.{ltb-false}
 use lib.Bits.{bit_and, and_mask}
 use lib.ListN.{get_or}
 use Rattle.bits.proofs.OneWay.{one_way-frozen}
-use Rattle.bits.proofs.Neither.{neither_left}
 use Rattle.forget.specs.Machine.{Every, end}
 use Rattle.model.specs.declared.Quad.{Quad}
 use Rattle.model.specs.Map.{mf0aes20}
@@ -31,7 +31,7 @@ kept_byte old new h = one_way-frozen (bit_and old 0xff) new ∙ and_mask old 8 �
 
 page-low : (p : ℕ) → page_bars mf0aes20 p ≡ false → 2 ≤ p
 unfolding page_bars mf0aes20
-page-low p h = ltb-false p 2 (neither_left _ _ h)
+page-low p h = ltb-false p 2 (or_parts _ _ h).0
 
 -- the first two bytes of page 02h
 module _ (s : List ℕ) (q : Quad) (h : Bytes s) where

@@ -29,14 +29,14 @@ positive Misfit h = omega arith
 positive LimitReached h = omega arith
 positive NoImage h = omega arith
 
-pub number-refuse_if : (t : Bool) (why : Refusal) → number_told (cond t (Err why) (Ok tt)) ≡ number_if t (number_of why)
-unfolding number_if
-number-refuse_if true why = refl
-number-refuse_if false why = refl
-
 -- what `refuse_if` answers
 abbrev refusing : Bool → Refusal → Result ⊤ Refusal
 refusing t why = cond t (Err why) (Ok tt)
+
+pub number-refuse_if : (t : Bool) (why : Refusal) → number_told (refusing t why) ≡ number_if t (number_of why)
+unfolding number_if
+number-refuse_if true why = refl
+number-refuse_if false why = refl
 
 -- the refusal, and any other where there is none
 error_or : Refusal → Result ⊤ Refusal → Refusal

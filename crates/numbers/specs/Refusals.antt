@@ -4,7 +4,7 @@
 --     number_told c   the number of a check: 0 where nothing is refused
 --
 -- Assumes nothing.
-use Rattle.std.specs.Prelude.{ℕ, Result, Ok, Err, ⊤}
+use Rattle.std.specs.Prelude.{ℕ, Result, Ok, Err}
 use Rattle.numbers.specs.declared.Refusal.{Refusal}
 use Rattle.numbers.specs.declared.Refusal.TheVariants.{Waiting, Damaged, Unknown, Length, Argument, Protected, Locked, FalseProof, CounterEnd, Misfit, LimitReached, NoImage}
 
@@ -22,6 +22,6 @@ number_of Misfit = 10
 number_of LimitReached = 11
 number_of NoImage = 12
 
-abbrev pub number_told : Result ⊤ Refusal → ℕ
+abbrev pub number_told : {A : Type 0} → Result A Refusal → ℕ
 number_told (Ok x) = 0
 number_told (Err r) = number_of r

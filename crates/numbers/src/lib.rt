@@ -80,7 +80,8 @@ pub fn check_rule(b: Barred) -> Result<(), Refusal>
     }
 }
 
-// The place in document 02's order of the rule that stops a write, 0 where none does.
+// The place in document 02's order of the rule that stops a write, 0 where none does. A function and no `From`, which only crate `model` may have for its
+// `Barred`; that crate holds no code.
 pub fn barred_place(b: Barred) -> u8
     ensures value { result ≡ barred_place b }
     ensures upper_bound { result ≤ 6 }

@@ -2,6 +2,7 @@
 --
 --   sets-suc       one byte more is one store more
 --   sets-append    two runs of bytes, one laid behind the other
+--   run-put        a run that a function gives, and its next byte stored behind it
 --   sets-own       a list's own first bytes laid over its start change nothing
 --   take-sets      what was laid over the start stands there
 --   sets-all       bytes laid over a whole list take its place
@@ -9,11 +10,13 @@
 --
 -- Assumes nothing.
 use mathlib.Core.Path.{◌≡◌, refl, sym, ap, ◌∙◌}
-use mathlib.Core.List.{List, [], ◌∷◌, ◌++◌}
+use mathlib.Core.List.{List, [], ◌∷◌, ◌++◌, map}
 use Prim.Native.Nat.{ℕ, zero, suc, ◌+◌, ◌≤◌, ◌<◌}
 use native.Mathlib.Nat.{add-zero, zero-add, add-suc, suc-add}
 use native.Mathlib.Omega.{arith}
 use lib.ListN.{length, get_or, take, drop, set, take-append-drop}
+use Rattle.std.specs.List.{range_with_len}
+use Rattle.std.proofs.lemmas.List.FromFn.{map-range_with_len_more, length-map-range_with_len}
 use lib.Seq.{sets, sets-eq, length-sets, take_all, take_at, length-take-le}
 
 pub sets-suc : (l : List ℕ) (f : ℕ) (bs : List ℕ) (i : ℕ) → i < length bs
@@ -29,6 +32,15 @@ sets-append l f [] ys = rw add-zero
 sets-append l f (x ∷ xs) ys =
     sets-append (set l f x) (suc f) xs ys
     ∙ ap (λ (j : ℕ). sets (sets (set l f x) (suc f) xs) j ys) (suc-add f (length xs) ∙ sym (add-suc f (length xs)))
+
+pub run-put : (l w after : List ℕ) (f a j x : ℕ) (g : ℕ → ℕ) → w ≡ sets l f (map g (range_with_len a j)) → x ≡ g (a + j) → after ≡ set w (f + j) x
+    → after ≡ sets l f (map g (range_with_len a (j + 1)))
+run-put l w after f a j x g before value stored =
+    let run = map g (range_with_len a j) in
+    stored
+    ∙ (λ i. set (before i) (f + j) (value i))
+    ∙ sym (ap (sets l f) (map-range_with_len_more g a j (a + j) refl) ∙ sets-append l f run (g (a + j) ∷ [])
+    ∙ ap (λ (k : ℕ). set (sets l f run) (f + k) (g (a + j))) (length-map-range_with_len g a j))
 
 -- over the start the laid list is the bytes and what was behind them
 sets-start : (l bs : List ℕ) → length bs ≤ length l → sets l 0 bs ≡ bs ++ drop (length bs) l

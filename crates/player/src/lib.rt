@@ -16,7 +16,7 @@ use numbers::barred_place;
 use script::line;
 use script::line::Line;
 
-// Sixteen copies of the line number modulo 256.
+// Sixteen copies of the line number modulo 256: a cast has to keep its value, so `as` alone does not cut a number.
 fn random_of(count: u64) -> [u8; 16]
     ensures { result ≡ random_of count }
 {

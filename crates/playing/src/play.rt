@@ -14,7 +14,7 @@ fn field(line: &[u8], n: usize) -> &[u8] {
     parts::part(line, b',', n)
 }
 
-// The frame of a line is sent. A count stands beside the frame's buffer, as `reports::digits::lay` says.
+// The frame of a line is sent. A count stands beside the frame's buffer, as `reports::digits::lay` says. Record and store are passed apart, as the calls take them.
 fn sent(tag: Tag, store: &mut [u8], line: &[u8], buffer: &mut [u8; SIZE]) -> Answer {
     let mut frame = [0; 64];
     let n = digits::lay(field(line, 1), 0, &mut frame);

@@ -21,7 +21,8 @@ pub enum Over {
 }
 
 // The record, the lines played so far, the text of the last of them, and the text gathered of all that is not yet written.
-// What stays of the record and the count is said by each method, since each keeps something else.
+// That the record and the count stay is said by each method that keeps them, as `write` always said it: a struct of the text alone would be a second type for
+// one caller.
 #[derive(Drop)]
 pub struct Progress {
     pub tag: Tag,

@@ -22,14 +22,15 @@ use Rattle.model.specs.declared.Barred.TheVariants.{Open}
 use Rattle.model.specs.declared.Effect.TheVariants.{Keep}
 use Rattle.model.specs.declared.Decision.{Decision}
 use Rattle.model.specs.Numbers.{refused}
-use Rattle.model.specs.Frame.{command_reason, command_number, command_done, not_done, commanded}
+use Rattle.model.specs.Frame.{command_reason, command_number, command_done, not_done}
 use Rattle.model.proofs.Stages.{commanded-done, commanded-not, commanded-refused}
 use Rattle.numbers.specs.declared.Refusal.{Refusal}
 use Rattle.numbers.specs.declared.Refusal.TheVariants.{Waiting, Damaged, Unknown, Length, Argument, Protected, Locked, FalseProof, CounterEnd, Misfit, LimitReached, NoImage}
 use Rattle.numbers.specs.Refusals.{number_of}
 use Rattle.numbers.proofs.Checks.{positive}
 use Rattle.refusals.specs.declared.RefusedFrame.{RefusedFrame}
-use Rattle.refusals.specs.Deciding.{decided}
+use Rattle.refusals.specs.declared.asked.Asked.{Asked}
+use Rattle.refusals.specs.Deciding.{decided, commanded_of}
 
 -- the exit of a `?` on a check
 pub decided-exit : (tag : Tag) (r : Refusal) (o : Result Decision RefusedFrame)
@@ -55,21 +56,26 @@ module _ (m : Map) (tag : Tag) (s : List ℕ) (d : Decision) where
   by-number LimitReached b k e = sym e
   by-number NoImage b k e = sym e
 
-module _ (c : Command) (m : Map) (tag : Tag) (s f random : List ℕ) where
-  pub refused-decided : (c ≡ Proof → ⊥) → (r : Refusal) (b : Barred) → number_of r ≡ command_number c m tag s f → command_reason c m tag s f ≡ b
-      → decided tag (Err (record { why = r; reason = b; effect = Keep })) ≡ commanded c m tag s f random
+module _ (c : Command) (a : Asked) where
+  pub refused-decided : (c ≡ Proof → ⊥) → (r : Refusal) (b : Barred)
+      → number_of r ≡ command_number c a.pages.map a.tag a.pages.bytes.now a.frame.now
+      → command_reason c a.pages.map a.tag a.pages.bytes.now a.frame.now ≡ b
+      → decided a.tag (Err (record { why = r; reason = b; effect = Keep })) ≡ commanded_of c a
   refused-decided other r b own why =
-      let some : command_number c m tag s f ≡ 0 → ⊥ = λ z. positive r (own ∙ z) in
-      by-number m tag s _ r b (commanded-not c m tag s f random some ∙ (λ i. not_done m tag s (sym own i) (why i)))
-      (commanded-refused c other m tag s f random some ∙ (λ i. refused (sym own i) (why i) Keep))
+      let m = a.pages.map in
+      let s = a.pages.bytes.now in
+      let f = a.frame.now in
+      let some : command_number c m a.tag s f ≡ 0 → ⊥ = λ z. positive r (own ∙ z) in
+      by-number m a.tag s _ r b (commanded-not c m a.tag s f a.random.now some ∙ (λ i. not_done m a.tag s (sym own i) (why i)))
+      (commanded-refused c other m a.tag s f a.random.now some ∙ (λ i. refused (sym own i) (why i) Keep))
 
   pub refused-exit : (c ≡ Proof → ⊥) → (r : Refusal) (o : Result Decision RefusedFrame)
       → IsErrAnd o (λ x. x ≡ record { why = r; reason = Open; effect = Keep })
-      → number_of r ≡ command_number c m tag s f → command_reason c m tag s f ≡ Open → decided tag o ≡ commanded c m tag s f random
-  refused-exit other r o exit own why =
-      decided-exit tag r o exit ∙ refused-decided other r Open own why
+      → number_of r ≡ command_number c a.pages.map a.tag a.pages.bytes.now a.frame.now
+      → command_reason c a.pages.map a.tag a.pages.bytes.now a.frame.now ≡ Open → decided a.tag o ≡ commanded_of c a
+  refused-exit other r o exit own why = decided-exit a.tag r o exit ∙ refused-decided other r Open own why
 
-  pub done-decided : (d : Decision) → command_number c m tag s f ≡ 0 → d ≡ command_done c m tag s f random
-      → decided tag (Ok d) ≡ commanded c m tag s f random
+  pub done-decided : (d : Decision) → command_number c a.pages.map a.tag a.pages.bytes.now a.frame.now ≡ 0
+      → d ≡ command_done c a.pages.map a.tag a.pages.bytes.now a.frame.now a.random.now → decided a.tag (Ok d) ≡ commanded_of c a
   unfolding decided
-  done-decided d own e = e ∙ sym (commanded-done c m tag s f random own)
+  done-decided d own e = e ∙ sym (commanded-done c a.pages.map a.tag a.pages.bytes.now a.frame.now a.random.now own)

@@ -26,7 +26,7 @@ use Rattle.model.specs.Numbers.{number_if, kept, refused, answered, acknowledged
 use Rattle.model.specs.Reading.{read_barred, fast_read_number}
 use Rattle.model.specs.Authentication.{challenged, proved}
 use Rattle.model.specs.Frame.{command_number, command_done, halted, decide}
-use Rattle.bits.proofs.Neither.{neither_right}
+use Rattle.std.proofs.lemmas.Bool.{or_parts}
 use Rattle.model.proofs.Misfit.{fits-room}
 use Rattle.model.proofs.Carried.{first-zero, number_if-zero, decide-is}
 use Rattle.reply.specs.Speaking.{said_size}
@@ -53,7 +53,7 @@ module _ (m : Map) (tag : Tag) (s f random : List ℕ) (room : ℕ) (five : 5 �
       let p = get_or f 1 0 in
       let q = get_or f 2 0 in
       let both = (first-zero (number_if (ltb q p || ltb (last_page m) q) 5) (number_if (read_barred m tag.state s q) 6) own).0 in
-      let last = neither_right (ltb q p) (ltb (last_page m) q) (number_if-zero (ltb q p || ltb (last_page m) q) 4 both) in
+      let last = (or_parts (ltb q p) (ltb (last_page m) q) (number_if-zero (ltb q p || ltb (last_page m) q) 4 both)).1 in
       range-fits m room big p q (omega arith) (ltb-false (last_page m) q last)
   done-fits Write own big = omega arith
   done-fits ReadCnt own big = count_fits m room big (get_or f 1 0) (omega arith)

@@ -17,12 +17,11 @@ fn pages_between(p: u8, q: u8) -> usize
     (q as usize + 1).saturating_sub(p as usize)
 }
 
-// Three bytes of a counter, low byte first: made here and in `image_write`, since a shared function would be a crate more for both.
+// Three bytes of a counter, low byte first.
 fn lay_count(v: u32, reply: &mut [u8]) -> usize
     ensures { Laid reply.old reply.new result (low_first 3 v) }
 {
-    let [low, middle, high, _] = v.to_le_bytes();
-    octets::lay(reply, 0, &[low, middle, high]);
+    lowfirst::lay_number(reply, 0, 3, v);
     3
 }
 

@@ -1,4 +1,5 @@
-// A line of the report. It is written by `io`: std's printing would put a handle and a Result into every function of five crates.
+// A line of the report. It is written by `io`: std's printing would put a handle and a Result into every function of five crates. Names are bytes, as `io` takes
+// them, and as a text of cases is cut by its marks.
 
 // Where a report is written: standard output.
 pub const STDOUT_FILENO: i32 = 1;

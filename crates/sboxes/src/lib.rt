@@ -15,7 +15,7 @@ pub fn substitute(b: u8) -> u8
     figure_7::SBOX[b as usize]
 }
 
-// The inverse substitution of a byte, FIPS 197 section 5.3.2.
+// The inverse substitution of a byte, FIPS 197 section 5.3.2: the standard has two tables, each with its definition.
 #[tactic(auto, unfolding(fips197::specs::SBox::inv_sbox, fips197::specs::SBox::inv_sbox_table))]
 pub fn inv_substitute(b: u8) -> u8
     ensures { result ≡ inv_sbox b }

@@ -4,9 +4,8 @@
 --     frame_bytes l n        the first n bytes of the frame that the line asks for, without CRC_A
 --
 -- A line is given without its newline. Assumes nothing.
-use Rattle.std.specs.Prelude.{List, Bool, ◌&&◌, cond, Option, Some, None, ℕ, ◌+◌, ◌-◌, ◌*◌, ◌/◌, ◌%◌, ltb, leb, eqb, length, get_or, drop}
-use Rattle.std.specs.List.{list_all}
-use Rattle.text.specs.Listed.{listed}
+use Rattle.std.specs.Prelude.{List, Bool, ◌&&◌, cond, Option, Some, None, ℕ, ◌+◌, ◌-◌, ◌*◌, ◌/◌, ◌%◌, ltb, leb, eqb, length, get_or, drop, map}
+use Rattle.std.specs.List.{list_all, range_with_len}
 use Rattle.text.specs.Digits.{digit_of}
 use Rattle.script.specs.declared.line.Line.{Line}
 use Rattle.script.specs.declared.line.Line.TheVariants.{Power, Select, Frame}
@@ -35,4 +34,4 @@ unfoldable pub byte_at : List ℕ → ℕ → ℕ
 byte_at l i = 16 * (digit_of (get_or l (2 * i + 2) 0) % 16) + digit_of (get_or l (2 * i + 2 + 1) 0) % 16
 
 abbrev pub frame_bytes : List ℕ → ℕ → List ℕ
-frame_bytes l n = listed (byte_at l) n
+frame_bytes l n = map (byte_at l) (range_with_len 0 n)

@@ -6,7 +6,7 @@ ghost use Rattle.script.specs.Line.{is_digit, frame_right, line_of, byte_at, fra
 
 use text::digits;
 
-// A power-on, a selection, or a frame of so many bytes.
+// A power-on, a selection, or a frame of so many bytes: a count and no slice of the line, as `line_of` and `turn_of` have it.
 #[derive(Clone, Copy)]
 pub enum Line {
     Power,
@@ -60,8 +60,8 @@ fn byte_at(line: &[u8], i: u8) -> u8
     digits::octet(line, 2 * (i as usize) + 2)
 }
 
-// The first n bytes of that frame, laid over the start of a buffer.
-#[tactic(auto, unfolding(text::specs::Listed::listed))]
+// The first n bytes of that frame, laid over the start of a buffer. By place: `iter_mut().enumerate()` would need the end cut to the buffer first, and each
+// place cast back to u8, which is no plainer.
 pub fn lay_frame(line: &[u8], n: u8, frame: &mut [u8])
     ensures { frame.new ≡ sets frame.old 0 (frame_bytes line.now n) }
 {

@@ -2,24 +2,17 @@
 --
 --   shown-length    n pages are 4 n bytes
 --   window-length   READ's pages are 16 bytes
---   run_length      a run of n bytes is n bytes
---   run_at          its byte i is byte f + i of the memory
---   run_step        one byte more of a run is one store more
---   run-all         behind its end nothing of a run is left
 --   run-page        four bytes from a page's first on are the page
 --   run-pages       4 n bytes from a page's first on are n pages
 --   window-laid     READ's pages laid one behind the other
 --
 -- Assumes nothing.
-use mathlib.Core.Path.{◌≡◌, refl, sym, ap, ◌∙◌}
+use mathlib.Core.Path.{◌≡◌, refl, ap, ◌∙◌}
 use mathlib.Core.List.{List, [], ◌∷◌, ◌++◌}
-use Prim.Native.Nat.{ℕ, zero, suc, ◌+◌, ◌*◌, ◌≤◌, ◌<◌}
-use native.Mathlib.Nat.{add-zero}
-use native.Mathlib.Numerals.{add-one}
+use Prim.Native.Nat.{ℕ, zero, suc, ◌+◌, ◌*◌}
 use native.Mathlib.Omega.{arith}
-use lib.ListN.{length, get_or, take, set}
-use lib.Seq.{sets, take_all}
-use Rattle.octets.proofs.Laid.{sets-suc}
+use lib.ListN.{length}
+use lib.Seq.{sets}
 use Rattle.model.specs.declared.Map.{Map}
 use Rattle.model.specs.declared.State.{State}
 use Rattle.model.specs.Reading.{shown_byte, pages_from, last_readable, page_after, read_window, shown_page, shown_pages}
@@ -38,37 +31,14 @@ module _ (m : Map) (st : State) (s : List ℕ) where
   unfolding shown_pages read_window
   window-length p = refl
 
-  pub run_length : (f n : ℕ) → length (shown_run m st s f n) ≡ n
-  unfolding shown_run
-  run_length f zero = refl
-  run_length f (suc n) = ap suc (run_length (suc f) n)
-
-  pub run_at : (f n i : ℕ) → i < n → get_or (shown_run m st s f n) i 0 ≡ shown_byte m st s (f + i)
-  unfolding shown_run
-  run_at f zero i h = absurd (omega arith)
-  run_at f (suc n) zero h = ap (shown_byte m st s) (sym (add-zero f))
-  run_at f (suc n) (suc i) h = run_at (suc f) n i (omega arith) ∙ ap (shown_byte m st s) (omega arith)
-
-  -- one byte more of a run is one store more
-  pub run_step : (r : List ℕ) (at f n i : ℕ) → i < n
-      → set (sets r at (take i (shown_run m st s f n))) (at + i) (shown_byte m st s (f + i)) ≡ sets r at (take (i + 1) (shown_run m st s f n))
-  run_step r at f n i h =
-      let run = shown_run m st s f n in
-      sym (ap (λ (k : ℕ). sets r at (take k run)) (add-one i) ∙ sets-suc r at run i (omega (arith, run_length f n))
-      ∙ ap (set (sets r at (take i run)) (at + i)) (run_at f n i h))
-
-  -- behind its end nothing of a run is left
-  pub run-all : (f n i : ℕ) → n ≤ i → take i (shown_run m st s f n) ≡ shown_run m st s f n
-  run-all f n i h = take_all i (shown_run m st s f n) (omega (arith, run_length f n))
-
   -- the four bytes of a page by another sum
   page-bytes : (p f : ℕ) → f ≡ 4 * p
-      → shown_byte m st s f ∷ shown_byte m st s (suc f) ∷ shown_byte m st s (suc (suc f)) ∷ shown_byte m st s (suc (suc (suc f))) ∷ []
+      → shown_byte m st s f ∷ shown_byte m st s (f + 1) ∷ shown_byte m st s (f + 1 + 1) ∷ shown_byte m st s (f + 1 + 1 + 1) ∷ []
       ≡ shown_page m st s p
   page-bytes p f e =
-      let e1 : suc f ≡ 4 * p + 1 = omega arith in
-      let e2 : suc (suc f) ≡ 4 * p + 2 = omega arith in
-      let e3 : suc (suc (suc f)) ≡ 4 * p + 3 = omega arith in
+      let e1 : f + 1 ≡ 4 * p + 1 = omega arith in
+      let e2 : f + 1 + 1 ≡ 4 * p + 2 = omega arith in
+      let e3 : f + 1 + 1 + 1 ≡ 4 * p + 3 = omega arith in
       λ i. shown_byte m st s (e i) ∷ shown_byte m st s (e1 i) ∷ shown_byte m st s (e2 i) ∷ shown_byte m st s (e3 i) ∷ []
 
   pub run-page : (p : ℕ) → shown_run m st s (4 * p) 4 ≡ shown_page m st s p
@@ -76,12 +46,12 @@ module _ (m : Map) (st : State) (s : List ℕ) where
   run-page p = page-bytes p (4 * p) refl
 
   -- a run of four bytes more
-  run-four : (p f n : ℕ) → f ≡ 4 * p → shown_run m st s f (suc (suc (suc (suc n)))) ≡ shown_page m st s p ++ shown_run m st s (suc (suc (suc (suc f)))) n
+  run-four : (p f n : ℕ) → f ≡ 4 * p → shown_run m st s f (suc (suc (suc (suc n)))) ≡ shown_page m st s p ++ shown_run m st s (f + 1 + 1 + 1 + 1) n
   unfolding shown_run
-  run-four p f n e = ap (λ (bs : List ℕ). bs ++ shown_run m st s (suc (suc (suc (suc f)))) n) (page-bytes p f e)
+  run-four p f n e = ap (λ (bs : List ℕ). bs ++ shown_run m st s (f + 1 + 1 + 1 + 1) n) (page-bytes p f e)
 
   -- the place of the next page, by the sum that a run counts by
-  next_place : (p f : ℕ) → f ≡ 4 * p → suc (suc (suc (suc f))) ≡ 4 * suc p
+  next_place : (p f : ℕ) → f ≡ 4 * p → f + 1 + 1 + 1 + 1 ≡ 4 * suc p
   next_place p f e = omega arith
 
   run-from : (p n f : ℕ) → f ≡ 4 * p → shown_run m st s f (4 * n) ≡ shown_pages m st s (pages_from p n)
@@ -89,7 +59,7 @@ module _ (m : Map) (st : State) (s : List ℕ) where
   run-from p zero f e = refl
   run-from p (suc n) f e =
       ap (shown_run m st s f) (fours n) ∙ run-four p f (4 * n) e
-      ∙ ap (λ (bs : List ℕ). shown_page m st s p ++ bs) (run-from (suc p) n (suc (suc (suc (suc f)))) (next_place p f e))
+      ∙ ap (λ (bs : List ℕ). shown_page m st s p ++ bs) (run-from (suc p) n (f + 1 + 1 + 1 + 1) (next_place p f e))
 
   pub run-pages : (p n : ℕ) → shown_run m st s (4 * p) (4 * n) ≡ shown_pages m st s (pages_from p n)
   run-pages p n = run-from p n (4 * p) refl

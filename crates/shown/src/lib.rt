@@ -14,14 +14,13 @@ use memory::pages::Pages;
 use model::State;
 
 // The n bytes from byte first on, as they are shown, from byte at of the reply on.
-fn lay_run(pages: &Pages, st: State, first: usize, n: usize, at: usize, reply: &mut [u8])
-    requires first_bound { first ≤ 1024 }
-    requires n_bound { n ≤ 1024 }
-    requires at_bound { at ≤ 1024 }
+// By place: what lies past the reply's end is dropped, as `sets` does. `iter_mut().enumerate()` would need both ends cut to the reply first, and is no plainer.
+fn lay_run(pages: &Pages, st: State, first: u16, n: u16, at: u16, reply: &mut [u8])
     ensures { reply.new ≡ sets reply.old at (shown_run pages.now.map st pages.now.bytes.now first n) }
 {
     for i in 0..n {
-        octets::put(reply, at + i, shown_byte(pages, st, first + i));
+        let byte = shown_byte(pages, st, first as usize + i as usize);
+        octets::put(reply, at as usize + i as usize, byte);
     }
 }
 
@@ -31,6 +30,6 @@ pub fn lay_pages(pages: &Pages, st: State, first: u8, count: usize, reply: &mut 
     ensures { Laid reply.old reply.new result (shown_pages pages.now.map st pages.now.bytes.now (pages_from first count)) }
 {
     let n = 4 * count;
-    lay_run(pages, st, 4 * (first as usize), n, 0, reply);
+    lay_run(pages, st, 4 * (first as u16), n as u16, 0, reply);
     n
 }

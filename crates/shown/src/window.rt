@@ -1,5 +1,5 @@
 // The window of READ, 009 10.2: behind the last page that may be read it continues at page 00h, as often as needed.
-ghost use Rattle.std.specs.Prelude.{◌≡◌, ◌≤◌};
+ghost use Rattle.std.specs.Prelude.{◌≡◌};
 ghost use Rattle.std.proofs.lemmas.List.Edits.{sets};
 ghost use Rattle.framing.specs.Laid.{Laid};
 ghost use Rattle.model.specs.Reading.{read_window, shown_page, shown_pages};
@@ -10,11 +10,10 @@ use model::State;
 use rollover::{last_readable, page_after};
 
 // A page as it is shown, from byte at of the reply on.
-fn lay_page(pages: &Pages, st: State, p: u8, at: usize, reply: &mut [u8])
-    requires { at ≤ 256 }
+fn lay_page(pages: &Pages, st: State, p: u8, at: u16, reply: &mut [u8])
     ensures { reply.new ≡ sets reply.old at (shown_page pages.now.map st pages.now.bytes.now p) }
 {
-    lay_run(pages, st, 4 * (p as usize), 4, at, reply);
+    lay_run(pages, st, 4 * (p as u16), 4, at, reply);
 }
 
 // The four pages of READ from p on, one by one, as 009 10.2 names them; returns how many bytes they are.

@@ -26,7 +26,8 @@ fn block(text: &[u8], n: usize) -> [u8; 16]
     digits::octets_of(text, 16 * n)
 }
 
-// The names of a block's two ways. Names and texts are written out, as the standard and the report have them: a name made in code would be found by no search.
+// The names of a block's two ways. Names and texts are written out, as the standard and the report have them: a name made in code would be found by no search. By number,
+// since the texts are whole: block n of each belongs to name n.
 const ECB_NAMES: [(&[u8], &[u8]); 4] = [
     (b"SP 800-38A F.1.1 block 1", b"SP 800-38A F.1.2 block 1"),
     (b"SP 800-38A F.1.1 block 2", b"SP 800-38A F.1.2 block 2"),

@@ -9,6 +9,9 @@ use c_answer::answer_of;
 use c_record::{RECORD_SIZE, record_of};
 use model::Reply;
 
+// The number of a record buffer of another length, C's own check (docs/C-FORM.md).
+const MISFIT: u8 = 10;
+
 // The field comes on. Any record is taken: its stored part stays as it is.
 #[tactic(auto, unfolding(crate::specs::Calls::fits, crate::specs::Calls::power))]
 pub fn kz_power(record: &mut [u8]) -> u8
@@ -16,19 +19,19 @@ pub fn kz_power(record: &mut [u8]) -> u8
     ensures record_after { «record».new ≡ (power «record».old).bytes }
 {
     let Some(record) = record.as_mut_array::<RECORD_SIZE>() else {
-        return 10;
+        return MISFIT;
     };
     c_events::power(record)
 }
 
-// The reader selects the tag, whatever its state and its record.
+// The reader selects the tag, whatever its state and its record. Beside kz_power, since C names both.
 #[tactic(auto, unfolding(crate::specs::Calls::fits, crate::specs::Calls::select))]
 pub fn kz_select(record: &mut [u8]) -> u8
     ensures value { result ≡ (select «record».old).number }
     ensures record_after { «record».new ≡ (select «record».old).bytes }
 {
     let Some(record) = record.as_mut_array::<RECORD_SIZE>() else {
-        return 10;
+        return MISFIT;
     };
     c_events::select(record)
 }
@@ -48,7 +51,7 @@ pub fn kz_frame(
     ensures reply_after { reply.new ≡ (frame «record».old store.old f.now random.now reply.old).reply }
 {
     let Some(record) = record.as_mut_array::<RECORD_SIZE>() else {
-        return answer_of(10, 0, Reply::Silence);
+        return answer_of(MISFIT, 0, Reply::Silence);
     };
     let a = tag::frame(record_of(&record[..]), store, f, random, reply);
     c_told::told(record, a)
@@ -62,7 +65,7 @@ pub fn kz_load(record: &mut [u8], store: &mut [u8], file: &[u8]) -> u8
     ensures store_after { store.new ≡ (load «record».old store.old file.now).store }
 {
     let Some(record) = record.as_mut_array::<RECORD_SIZE>() else {
-        return 10;
+        return MISFIT;
     };
     c_image::load(record, store, file)
 }
@@ -73,8 +76,8 @@ pub fn kz_save(record: &[u8], store: &[u8], file: &mut [u8]) -> u8
     ensures value { result ≡ (save «record».now store.now file.old).number }
     ensures file_after { file.new ≡ (save «record».now store.now file.old).file }
 {
-    if record.len() != RECORD_SIZE {
-        return 10;
-    }
+    let Some(record) = record.as_array::<RECORD_SIZE>() else {
+        return MISFIT;
+    };
     c_image::save(record, store, file)
 }

@@ -1,7 +1,7 @@
 // Document 01: "The command is told by its first byte, and each code has one length." The codes and lengths are 009 Table 20's.
 #![tactic(auto)]
 
-ghost use Rattle.std.specs.Prelude.{◌≡◌};
+ghost use Rattle.std.specs.Prelude.{◌≡◌, IfOk, IsSomeAnd};
 ghost use Rattle.model.specs.Telling.{damaged, code_of, told, allowed, told_number};
 ghost use Rattle.numbers.specs.Refusals.{number_told};
 
@@ -14,11 +14,13 @@ use numbers::{Refusal, refuse_if};
 pub fn damaged(f: &[u8]) -> bool
     ensures { result ≡ damaged f.now }
 {
-    let n = f.len();
-    if !(3..=64).contains(&n) {
+    if !(3..=64).contains(&f.len()) {
         return true;
     }
-    crc::crc_a(&f[..n - 2]) != octets::low_first(octets::at(f, n - 2), octets::at(f, n - 1))
+    let Some((bytes, trailer)) = f.split_last_chunk::<2>() else {
+        return true;
+    };
+    crc::crc_a(bytes) != u16::from_le_bytes(*trailer)
 }
 
 // What a code byte tells: a command, and the length of its payload, the frame without CRC_A. A function and no `TryFrom`, which only crate `model` may have for
@@ -47,7 +49,7 @@ pub fn told(code: u8) -> Option<(Command, u8)>
     }
 }
 
-// The code byte of a command: its discriminant.
+// The code byte of a command: its discriminant. No program asks for it; it states that the discriminants are the code bytes.
 pub fn code_of(c: Command) -> u8
     ensures { result ≡ code_of c }
 {
@@ -62,12 +64,14 @@ pub fn allowed(st: State, c: Command) -> bool
     record::is_challenged(st) == matches!(c, Command::Proof)
 }
 
-// A code that is unknown or not allowed now, or a frame of another length n.
+// The command that a code tells, or why it is refused: the code is unknown or not allowed now, or the frame has another length n.
 #[tactic(auto, unfolding(model::specs::Telling::told_number, model::specs::Numbers::first, model::specs::Numbers::number_if))]
-pub fn check_told(t: Option<(Command, u8)>, st: State, n: usize) -> Result<(), Refusal>
-    ensures { number_told result ≡ told_number t st n }
+pub fn check_told(t: Option<(Command, u8)>, st: State, n: usize) -> Result<Command, Refusal>
+    ensures number { number_told result ≡ told_number t st n }
+    ensures command { IfOk result (λ c. IsSomeAnd t (λ known. known.0 ≡ c)) }
 {
     let (c, payload) = t.ok_or(Refusal::Unknown)?;
     refuse_if(!allowed(st, c), Refusal::Unknown)?;
-    refuse_if(n != usize::from(payload) + 2, Refusal::Length)
+    refuse_if(n != usize::from(payload) + 2, Refusal::Length)?;
+    Ok(c)
 }

@@ -1,4 +1,3 @@
 -- Parts of a text.
-pub mod Listed
 pub mod Digits
 pub mod Lines

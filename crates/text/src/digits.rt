@@ -2,7 +2,7 @@
 ghost use Rattle.std.specs.Prelude.{◌≡◌, ◌%◌, ◌<◌, get_or, MatchOption};
 ghost use Rattle.text.specs.Digits.{digit_of, octet_of};
 
-// The value of a digit, and none for every other byte.
+// The value of a digit, and none for every other byte. `char::to_digit` takes upper case too.
 #[tactic(auto, unfolding(crate::specs::Digits::digit_of))]
 pub fn digit(b: u8) -> Option<u8>
     ensures { MatchOption result (digit_of b ≡ 16) (λ d. (d ≡ digit_of b) × (d < 16)) }

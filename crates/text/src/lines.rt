@@ -11,7 +11,7 @@ fn place_of(bytes: &[u8], mark: u8) -> Option<usize>
     bytes.iter().position(|b| *b == mark)
 }
 
-// The place of the first mark from i on, or the end. It and `newline_from` stay beside `cut_line`: docs/CLAIMS.md names the promise of `newline_from`.
+// The place of the first mark from i on, or the end. It and `newline_from` stay beside `cut_line`: docs/CLAIMS.md names the promise of `newline_from`, which rests on it.
 pub fn mark_from(bytes: &[u8], mark: u8, i: usize) -> usize
     requires { i ≤ length bytes.now }
     ensures value { result ≡ i + before_mark mark (drop i bytes.now) }

@@ -13,12 +13,12 @@ unfolding command_reason command_number
 returns-in_err-check_challenge c =
     let a = c.args.asked.now in
     let own = c.in_err-check_challenge.ensures ∙ ap (challenge_number a.pages.map a.tag a.pages.bytes.now) c.at-k.ensures in
-    refused-exit Authenticate a.pages.map a.tag a.pages.bytes.now a.frame.now a.random.now authenticate-other _ _ c.from_residual.ensures.1 own refl
+    refused-exit Authenticate a authenticate-other _ _ c.from_residual.ensures.1 own refl
 
 pub returns : goal.returns
 unfolding command_number command_done
 returns c =
     let a = c.args.asked.now in
     let own = sym (c.in_ok-check_challenge.ensures ∙ ap (challenge_number a.pages.map a.tag a.pages.bytes.now) c.at-k.ensures) in
-    done-decided Authenticate a.pages.map a.tag a.pages.bytes.now a.frame.now a.random.now _ own
+    done-decided Authenticate a _ own
     (c.challenge.ensures ∙ ap₂ (challenged a.pages.map a.tag a.pages.bytes.now) c.at-k.ensures c.block_of.ensures)

@@ -19,11 +19,11 @@ unfolding command_reason command_number
 returns-in_err-refuse_if c =
     let a = c.args.asked.now in
     let own = ap number_told c.in_err-refuse_if.ensures ∙ number-refuse_if _ Argument ∙ ap (λ (n : ℕ). number_if (not (eqb n 0)) 5) c.at.ensures in
-    refused-exit Halt a.pages.map a.tag a.pages.bytes.now a.frame.now a.random.now halt-other _ _ c.from_residual.ensures.1 own refl
+    refused-exit Halt a halt-other _ _ c.from_residual.ensures.1 own refl
 
 pub returns : goal.returns
 unfolding command_number command_done
 returns c =
     let a = c.args.asked.now in
     let own = ap number_told c.in_ok-refuse_if.ensures ∙ number-refuse_if _ Argument ∙ ap (λ (n : ℕ). number_if (not (eqb n 0)) 5) c.at.ensures in
-    done-decided Halt a.pages.map a.tag a.pages.bytes.now a.frame.now a.random.now _ (sym own) c.halted.ensures
+    done-decided Halt a _ (sym own) c.halted.ensures

@@ -20,7 +20,7 @@ unfolding command_reason command_number
 returns-in_err-check_incr_cnt c =
     let a = c.args.asked.now in
     let own = c.in_err-check_incr_cnt.ensures ∙ ap₂ (incr_cnt_number a.pages.map a.tag a.pages.bytes.now) c.at-k.ensures c.data_of-q.ensures in
-    refused-exit IncrCnt a.pages.map a.tag a.pages.bytes.now a.frame.now a.random.now incr-cnt-other _ _ c.from_residual.ensures.1 own refl
+    refused-exit IncrCnt a incr-cnt-other _ _ c.from_residual.ensures.1 own refl
 
 pub overflow_add-v : goal.overflow_add-v
 unfolding command_number
@@ -44,5 +44,5 @@ returns c =
     let own = sym (c.in_ok-check_incr_cnt.ensures ∙ ap₂ (incr_cnt_number a.pages.map a.tag a.pages.bytes.now) number value) in
     let v = c.counter-v.ensures ∙ ap (counter a.tag) number in
     let more = c.increment-more.ensures ∙ ap increment value in
-    done-decided IncrCnt a.pages.map a.tag a.pages.bytes.now a.frame.now a.random.now _ own
+    done-decided IncrCnt a _ own
     (c.acknowledged.ensures ∙ (λ i. acknowledged a.tag (Counter (number i) (v i + more i))))

@@ -2,7 +2,7 @@
 -- Assumes nothing.
 use mathlib.Core.Path.{sym, ◌∙◌}
 use Rattle.numbers.specs.declared.Refusal.TheVariants.{LimitReached}
-use Rattle.numbers.proofs.Checks.{refuse_if-err, refuse_if-ok}
+use Rattle.numbers.proofs.Checks.{refuse_if-err}
 use Rattle.refusals.proofs.Outcome.{decided-exit}
 use Rattle.login.proofs.PartTwo.{proof-at-limit}
 use Rattle.login.proofs.prove.Goals as goal
@@ -13,10 +13,3 @@ returns-in_err-refuse_if c =
     let e = refuse_if-err _ LimitReached _ c.in_err-refuse_if.ensures in
     decided-exit a.tag _ _ c.from_residual.ensures.1
     ∙ rw e.1 (proof-at-limit a.pages.map a.tag a.pages.bytes.now a.frame.now a.random.now (sym c.limit_reached-reached.ensures ∙ e.0))
-
-pub judge_answer-requires : goal.judge_answer-requires
-judge_answer-requires c = record {
-  in_bounds = c.requires.in_bounds;
-  failed_bound = c.requires.failed_bound;
-  limit_value = sym c.limit_reached-reached.ensures ∙ refuse_if-ok _ LimitReached _ c.in_ok-refuse_if.ensures;
-}

@@ -4,7 +4,7 @@ use borrow.Author.Rules.{rules}
 use mathlib.Core.List.{[]}
 use Prim.Native.Nat.{◌/◌, ◌%◌}
 use lib.ListN.{get_or}
-use Rattle.columns.proofs.Made.{made_by}
+use Rattle.octets.proofs.Made.{made_by}
 use Rattle.mixing.proofs.state_of.Goals as goal
 
 pub returns : goal.returns

@@ -17,7 +17,7 @@ returns-in_err-check_fast_read c =
     let a = c.args.asked.now in
     let own = c.in_err-check_fast_read.ensures
     ∙ ap₂ (fast_read_number a.pages.map a.tag.state a.pages.bytes.now) c.at-p.ensures c.at-q.ensures in
-    refused-exit FastRead a.pages.map a.tag a.pages.bytes.now a.frame.now a.random.now fast-read-other _ _ c.from_residual.ensures.1 own refl
+    refused-exit FastRead a fast-read-other _ _ c.from_residual.ensures.1 own refl
 
 pub returns : goal.returns
 unfolding command_number command_done
@@ -25,5 +25,5 @@ returns c =
     let a = c.args.asked.now in
     let own = sym (c.in_ok-check_fast_read.ensures
     ∙ ap₂ (fast_read_number a.pages.map a.tag.state a.pages.bytes.now) c.at-p.ensures c.at-q.ensures) in
-    done-decided FastRead a.pages.map a.tag a.pages.bytes.now a.frame.now a.random.now _ own
+    done-decided FastRead a _ own
     (c.answered.ensures ∙ ap₂ (λ (p q : ℕ). answered a.tag (Range p q)) c.at-p.ensures c.at-q.ensures)

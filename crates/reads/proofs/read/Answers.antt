@@ -16,12 +16,12 @@ unfolding command_reason command_number
 returns-in_err-check_read c =
     let a = c.args.asked.now in
     let own = c.in_err-check_read.ensures ∙ ap (read_number a.pages.map a.tag.state a.pages.bytes.now) c.at-p.ensures in
-    refused-exit Read a.pages.map a.tag a.pages.bytes.now a.frame.now a.random.now read-other _ _ c.from_residual.ensures.1 own refl
+    refused-exit Read a read-other _ _ c.from_residual.ensures.1 own refl
 
 pub returns : goal.returns
 unfolding command_number command_done
 returns c =
     let a = c.args.asked.now in
     let own = sym (c.in_ok-check_read.ensures ∙ ap (read_number a.pages.map a.tag.state a.pages.bytes.now) c.at-p.ensures) in
-    done-decided Read a.pages.map a.tag a.pages.bytes.now a.frame.now a.random.now _ own
+    done-decided Read a _ own
     (c.answered.ensures ∙ ap (λ (p : ℕ). answered a.tag (Window p)) c.at-p.ensures)

@@ -16,12 +16,12 @@ unfolding command_reason command_number
 returns-in_err-check_read_cnt c =
     let a = c.args.asked.now in
     let own = c.in_err-check_read_cnt.ensures ∙ ap (read_cnt_number a.pages.map a.tag.state a.pages.bytes.now) c.at-k.ensures in
-    refused-exit ReadCnt a.pages.map a.tag a.pages.bytes.now a.frame.now a.random.now read-cnt-other _ _ c.from_residual.ensures.1 own refl
+    refused-exit ReadCnt a read-cnt-other _ _ c.from_residual.ensures.1 own refl
 
 pub returns : goal.returns
 unfolding command_number command_done
 returns c =
     let a = c.args.asked.now in
     let own = sym (c.in_ok-check_read_cnt.ensures ∙ ap (read_cnt_number a.pages.map a.tag.state a.pages.bytes.now) c.at-k.ensures) in
-    done-decided ReadCnt a.pages.map a.tag a.pages.bytes.now a.frame.now a.random.now _ own
+    done-decided ReadCnt a _ own
     (c.answered.ensures ∙ ap (λ (k : ℕ). answered a.tag (Count k)) c.at-k.ensures)

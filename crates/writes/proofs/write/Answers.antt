@@ -20,7 +20,7 @@ returns-in-Ok c =
     let why = c.barred-reason.ensures ∙ ap₂ (barred a.pages.map a.tag.state s) page value in
     let own = sym (c.in-Ok.ensures ∙ ap₂ (write_number a.pages.map) page why) in
     let stored = c.written-w.ensures ∙ ap₂ (written a.pages.map s) page value in
-    done-decided Write a.pages.map a.tag s a.frame.now a.random.now _ own
+    done-decided Write a _ own
     (c.acknowledged.ensures ∙ (λ i. acknowledged a.tag (Page (page i) (stored i))))
 
 pub returns-in-Err : goal.returns-in-Err
@@ -32,4 +32,4 @@ returns-in-Err c =
     let value = c.data_of-q.ensures in
     let why = c.barred-reason.ensures ∙ ap₂ (barred a.pages.map a.tag.state s) page value in
     let own = c.in-Err.ensures ∙ ap₂ (write_number a.pages.map) page why in
-    refused-decided Write a.pages.map a.tag s a.frame.now a.random.now write-other _ _ own (sym why)
+    refused-decided Write a write-other _ _ own (sym why)

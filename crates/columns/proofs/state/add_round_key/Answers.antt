@@ -7,7 +7,7 @@ use mathlib.Core.Path.{◌≡◌}
 use Prim.Native.Nat.{◌+◌, ◌*◌, ◌/◌, ◌%◌}
 use lib.ListN.{get_or}
 use Rattle.fips197.specs.State.{add_round_key}
-use Rattle.columns.proofs.Made.{made_by}
+use Rattle.octets.proofs.Made.{made_by}
 use Rattle.columns.proofs.state.add_round_key.Goals as goal
 
 pub returns : goal.returns

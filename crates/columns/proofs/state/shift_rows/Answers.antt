@@ -4,7 +4,7 @@ use borrow.Author.Rules.{rules}
 use Prim.Native.Nat.{◌+◌, ◌*◌, ◌%◌}
 use lib.ListN.{get_or}
 use Rattle.fips197.specs.State.{shift_rows}
-use Rattle.columns.proofs.Made.{made_by}
+use Rattle.octets.proofs.Made.{made_by}
 use Rattle.columns.proofs.state.shift_rows.Goals as goal
 
 pub returns : goal.returns

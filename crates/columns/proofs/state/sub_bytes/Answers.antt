@@ -4,7 +4,8 @@ use borrow.Author.Rules.{rules}
 use mathlib.Core.Path.{◌∙◌}
 use Rattle.fips197.specs.SBox.{s_box}
 use Rattle.fips197.specs.State.{sub_bytes}
-use Rattle.columns.proofs.Made.{mapped_by, map_state}
+use Rattle.octets.proofs.Made.{mapped_by}
+use Rattle.columns.proofs.Mapped.{map_state}
 use Rattle.columns.proofs.state.sub_bytes.Goals as goal
 
 pub returns : goal.returns

@@ -4,7 +4,7 @@ use borrow.Author.Rules.{rules}
 use lib.Bits.{bit_xor}
 use lib.ListN.{get_or}
 use Rattle.fips197.specs.Cbc.{xor_block}
-use Rattle.columns.proofs.Made.{made_by}
+use Rattle.octets.proofs.Made.{made_by}
 use Rattle.columns.proofs.state.xor_block.Goals as goal
 
 pub returns : goal.returns

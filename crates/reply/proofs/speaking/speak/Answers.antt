@@ -4,31 +4,10 @@ use mathlib.Core.Path.{ap}
 use native.Mathlib.Omega.{arith}
 use lib.ListN.{length}
 use Rattle.model.specs.declared.Reply.TheVariants.{Bytes}
-use Rattle.model.specs.Frame.{said_of}
 use Rattle.reply.specs.Speaking.{data_of}
 use Rattle.reply.proofs.Data.{of-bytes, data-said, data-fits}
 use Rattle.framing.proofs.Sealed.{laid-length, sealed-count, sealed}
 use Rattle.reply.proofs.speaking.speak.Goals as goal
-
-pub returns-in-Silence : goal.returns-in-Silence
-unfolding said_of data_of
-returns-in-Silence c =
-    let e = c.in-Silence.is in
-    let laid = c.lay_data-n.ensures.bytes in
-    record {
-      value = rw e;
-      reply_after = rw e (rw e at laid);
-    }
-
-pub returns-in-Nibble : goal.returns-in-Nibble
-unfolding said_of data_of
-returns-in-Nibble c =
-    let e = c.in-Nibble.is in
-    let laid = c.lay_data-n.ensures.bytes in
-    record {
-      value = rw e;
-      reply_after = rw e (rw e at laid);
-    }
 
 pub seal-requires : goal.seal-requires
 seal-requires c =

@@ -1,11 +1,11 @@
--- `fields::bytes` meets its contract: each call reads the byte at its index, and changes neither s nor at.
+-- `octets::bytes_from` meets its contract: each call reads the byte at its index, and changes neither s nor start.
 -- Assumes nothing.
 use Rattle.std.proofs.Common.{rules}
 use mathlib.Core.Path.{◌≡◌}
 use Prim.Native.Nat.{◌+◌}
 use lib.ListN.{get_or}
-use Rattle.fields.proofs.Filled.{filled}
-use Rattle.fields.proofs.bytes.Goals as goal
+use Rattle.octets.proofs.Made.{filled}
+use Rattle.octets.proofs.bytes_from.Goals as goal
 
 pub returns : goal.returns
 returns g c k h =
