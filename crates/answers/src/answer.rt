@@ -8,8 +8,8 @@ use arrayvec::ArrayVec;
 // No answer is longer: a number, a place and the digits of 242 bytes.
 pub type Text = ArrayVec<u8, 490>;
 
-// A hexadecimal digit. Digits are made by hand here and below, and `write!` is no plainer: it writes into a str and may fail, a text is bytes, and `number_text`
-// is no decimal number from 100 on.
+// A hexadecimal digit. Digits are made by hand here and below, and `write!` is no plainer: nothing promises that what it hands back is Ok, and `number_text` is
+// no decimal number from 100 on.
 #[tactic(auto, unfolding(crate::specs::Answer::letter_of))]
 fn letter(d: u8) -> u8
     requires { d < 16 }

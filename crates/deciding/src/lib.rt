@@ -47,7 +47,7 @@ fn judged(asked: &Asked, room: usize) -> Result<Decision, RefusedFrame>
     command(c, asked)
 }
 
-// What a frame comes to. Its parts are passed apart, as the definition takes them.
+// What a frame comes to. Its parts are passed apart: `tag::frame` can't make an `Asked` of its arguments, which have a lifetime each (tried).
 pub fn decide(pages: &Pages, tag: Tag, f: &[u8], random: &[u8], room: usize) -> Decision
     ensures { result ≡ decide pages.now.map tag pages.now.bytes.now f.now random.now room }
 {

@@ -31,7 +31,7 @@ fn session(text: &[u8]) {
     );
 }
 
-// A function each: as rows of one table their comments would stand beside texts of ten lines, and no error would name the session.
+// A function each: as rows of one table their comments would stand beside texts of ten lines.
 
 // 009 Table 17 in full: the key is zero.
 fn table_17() {

@@ -1,6 +1,4 @@
 // ECB and CBC with AES-128: SP 800-38A, F.1.1, F.1.2, F.2.1 and F.2.2.
-ghost use Rattle.std.specs.Prelude.{◌<◌};
-
 use crate::{chained, cipher};
 use reports::{digits, report};
 
@@ -19,15 +17,12 @@ const CBC: [u8; 128] = *b"7649abac8119b246cee98e9b12e9197d\
     73bed6b8e3c1743b7116e69e22229516\
     3ff1caa1681fac09120eca307586e1a7";
 
-// Block n of a text.
-fn block(text: &[u8], n: usize) -> [u8; 16]
-    requires { n < 4 }
-{
-    digits::octets_of(text, 16 * n)
+// The bytes of a block's digits.
+fn block(digits: &[u8]) -> [u8; 16] {
+    digits::octets_of(digits, 0)
 }
 
-// The names of a block's two ways. Names and texts are written out, as the standard and the report have them: a name made in code would be found by no search. By number,
-// since the texts are whole: block n of each belongs to name n.
+// The names of a block's two ways. Names and texts are written out, as the standard and the report have them: a name made in code would be found by no search.
 const ECB_NAMES: [(&[u8], &[u8]); 4] = [
     (b"SP 800-38A F.1.1 block 1", b"SP 800-38A F.1.2 block 1"),
     (b"SP 800-38A F.1.1 block 2", b"SP 800-38A F.1.2 block 2"),
@@ -36,14 +31,10 @@ const ECB_NAMES: [(&[u8], &[u8]); 4] = [
 ];
 
 pub fn ecb() {
-    for (n, (there, back)) in ECB_NAMES.iter().enumerate() {
-        cipher::both_ways(
-            there,
-            back,
-            cipher::example_key(),
-            block(&PLAIN, n),
-            block(&ECB, n),
-        );
+    let texts = PLAIN.chunks(32).zip(ECB.chunks(32));
+    for ((there, back), (plain, cipher)) in ECB_NAMES.iter().zip(texts) {
+        let key = cipher::example_key();
+        cipher::both_ways(there, back, key, block(plain), block(cipher));
     }
 }
 
@@ -57,8 +48,9 @@ const ENCIPHER_NAMES: [&[u8]; 4] = [
 fn cbc_encipher() {
     let key = cipher::example_key();
     let mut chain = cipher::counting();
-    for (n, name) in ENCIPHER_NAMES.iter().enumerate() {
-        let next = chained::encipher(name, key, chain, block(&PLAIN, n), block(&CBC, n));
+    let texts = PLAIN.chunks(32).zip(CBC.chunks(32));
+    for (name, (plain, cipher)) in ENCIPHER_NAMES.iter().zip(texts) {
+        let next = chained::encipher(name, key, chain, block(plain), block(cipher));
         chain = next;
     }
 }
@@ -73,13 +65,10 @@ const DECIPHER_NAMES: [&[u8]; 4] = [
 fn cbc_decipher() {
     let key = cipher::example_key();
     let mut chain = cipher::counting();
-    for (n, name) in DECIPHER_NAMES.iter().enumerate() {
-        let cipher = block(&CBC, n);
-        report::line(
-            name,
-            &cbc::cbc_decipher(key, chain, cipher),
-            &block(&PLAIN, n),
-        );
+    let texts = PLAIN.chunks(32).zip(CBC.chunks(32));
+    for (name, (plain, cipher)) in DECIPHER_NAMES.iter().zip(texts) {
+        let cipher = block(cipher);
+        report::line(name, &cbc::cbc_decipher(key, chain, cipher), &block(plain));
         chain = cipher;
     }
 }
@@ -89,8 +78,8 @@ fn cbc_decipher_two() {
         cipher::example_key(),
         cipher::counting(),
         digits::octets_of(&CBC, 0),
-        (b"SP 800-38A F.2.2 block 1 of two", block(&PLAIN, 0)),
-        (b"SP 800-38A F.2.2 block 2 of two", block(&PLAIN, 1)),
+        (b"SP 800-38A F.2.2 block 1 of two", block(&PLAIN)),
+        (b"SP 800-38A F.2.2 block 2 of two", block(&PLAIN[32..])),
     );
 }
 

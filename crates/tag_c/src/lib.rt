@@ -8,9 +8,7 @@ ghost use Rattle.tag_c.specs.Calls.{power, select, frame, load, save};
 use c_answer::answer_of;
 use c_record::{RECORD_SIZE, record_of};
 use model::Reply;
-
-// The number of a record buffer of another length, C's own check (docs/C-FORM.md).
-const MISFIT: u8 = 10;
+use numbers::Refusal;
 
 // The field comes on. Any record is taken: its stored part stays as it is.
 #[tactic(auto, unfolding(crate::specs::Calls::fits, crate::specs::Calls::power))]
@@ -19,7 +17,7 @@ pub fn kz_power(record: &mut [u8]) -> u8
     ensures record_after { «record».new ≡ (power «record».old).bytes }
 {
     let Some(record) = record.as_mut_array::<RECORD_SIZE>() else {
-        return MISFIT;
+        return Refusal::Misfit.number();
     };
     c_events::power(record)
 }
@@ -31,7 +29,7 @@ pub fn kz_select(record: &mut [u8]) -> u8
     ensures record_after { «record».new ≡ (select «record».old).bytes }
 {
     let Some(record) = record.as_mut_array::<RECORD_SIZE>() else {
-        return MISFIT;
+        return Refusal::Misfit.number();
     };
     c_events::select(record)
 }
@@ -51,7 +49,7 @@ pub fn kz_frame(
     ensures reply_after { reply.new ≡ (frame «record».old store.old f.now random.now reply.old).reply }
 {
     let Some(record) = record.as_mut_array::<RECORD_SIZE>() else {
-        return answer_of(MISFIT, 0, Reply::Silence);
+        return answer_of(Refusal::Misfit.number(), 0, Reply::Silence);
     };
     let a = tag::frame(record_of(&record[..]), store, f, random, reply);
     c_told::told(record, a)
@@ -65,7 +63,7 @@ pub fn kz_load(record: &mut [u8], store: &mut [u8], file: &[u8]) -> u8
     ensures store_after { store.new ≡ (load «record».old store.old file.now).store }
 {
     let Some(record) = record.as_mut_array::<RECORD_SIZE>() else {
-        return MISFIT;
+        return Refusal::Misfit.number();
     };
     c_image::load(record, store, file)
 }
@@ -77,7 +75,7 @@ pub fn kz_save(record: &[u8], store: &[u8], file: &mut [u8]) -> u8
     ensures file_after { file.new ≡ (save «record».now store.now file.old).file }
 {
     let Some(record) = record.as_array::<RECORD_SIZE>() else {
-        return MISFIT;
+        return Refusal::Misfit.number();
     };
     c_image::save(record, store, file)
 }
