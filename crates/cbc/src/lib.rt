@@ -1,4 +1,5 @@
-// The CBC mode of NIST SP 800-38A over `aes`: keys and blocks by value, for any bytes.
+// The CBC mode of NIST SP 800-38A over `aes`: keys and blocks by value, for any bytes. Key and chaining value are passed apart, as the contracts' definitions are of
+// both, and as the chaining value is another for each block and the key the same.
 #![tactic(auto)]
 
 ghost use Rattle.std.specs.Prelude.{◌≡◌};

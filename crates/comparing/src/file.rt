@@ -10,7 +10,7 @@ fn change(file: &mut [u8], text: &[u8]) {
     digits::lay(text, 1, &mut file[at..]);
 }
 
-// The file of a text, with up to two changes.
+// The file of a text, with up to two changes. Image and changes are passed apart: they are two texts, and the image is the same for all sessions.
 fn lay(image: &[u8], changes: &[u8], file: &mut [u8]) {
     digits::lay(image, 0, file);
     change(file, parts::part(changes, b';', 0));

@@ -31,7 +31,7 @@ pub fn number4(i: &[u8], at: usize) -> u32
     u32::from_le_bytes(bytes_from(i, at))
 }
 
-// A block of 16 bytes. A line over `bytes_from`, as columns::state::block_of: callers name both, and the one crate has no AES and the other no numbers.
+// A block of 16 bytes. As columns::state::block_of, which says why there are two.
 #[tactic(auto, using(fips197::proofs::Cbc::block_of_bytes))]
 pub fn block_of(s: &[u8], at: usize) -> [u8; 16]
     ensures { result ≡ block_of s.now at }

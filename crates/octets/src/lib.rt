@@ -17,11 +17,7 @@ pub fn at(s: &[u8], i: usize) -> u8
 pub fn behind(s: &[u8], start: usize, k: usize) -> u8
     ensures { result ≡ get_or s.now (start + k) 0 }
 {
-    if k < s.len().saturating_sub(start) {
-        s[start + k]
-    } else {
-        0
-    }
+    at(s, start.saturating_add(k))
 }
 
 // The N bytes of s from byte start on; what lies past the end of s is 0.

@@ -1,4 +1,4 @@
-// Blocks chained in CBC mode.
+// Blocks chained in CBC mode. Key and chaining value are apart, as in `cbc`.
 use reports::report;
 
 // The computed ciphertext comes back: it is the next block's chaining value.
