@@ -6,7 +6,7 @@ ghost use Rattle.fips197.specs.KeyExpansion.{key_expansion};
 ghost use Rattle.fips197.specs.Cipher.{encipher, decipher};
 ghost use Rattle.aes.specs.TwoBlocks.{decipher_two};
 
-// The 44 words of the key schedule, FIPS 197 section 5.2: handed on from `schedule`, since callers would else need a second crate for it.
+// The 44 words of the key schedule, FIPS 197 section 5.2: handed on from `schedule`, since docs/CLAIMS.md names it here with its contract.
 pub fn key_schedule(key: [u8; 16]) -> [u8; 176]
     ensures { result ≡ key_expansion key }
 {

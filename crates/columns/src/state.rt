@@ -46,8 +46,8 @@ pub fn add_round_key(w: &[u8; 176], n: usize, s: [u8; 16]) -> [u8; 16]
     array::from_fn(|i| s[i] ^ w[16 * n + i])
 }
 
-// The sixteen bytes of s from byte n on; a byte past its end counts 0. As fields::block_of: what both share is
-// `bytes_from`, and a crate for both, which would need no AES and no numbers, would hold that line alone.
+// The sixteen bytes of s from byte n on; a byte past its end counts 0. Beside fields::block_of: what both share is
+// `bytes_from`; in `cbc`, its only caller, it would be the same line, and a crate for both would hold that line alone.
 #[tactic(auto, using(fips197::proofs::Cbc::block_of_bytes))]
 pub fn block_of(s: &[u8], n: usize) -> [u8; 16]
     ensures { result ≡ block_of s.now n }

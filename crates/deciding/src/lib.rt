@@ -47,7 +47,8 @@ fn judged(asked: &Asked, room: usize) -> Result<Decision, RefusedFrame>
     command(c, asked)
 }
 
-// What a frame comes to. Its parts are passed apart: `tag::frame` can't make an `Asked` of its arguments, which have a lifetime each (tried).
+// What a frame comes to. Its parts are passed apart. Tried: an `Asked` made in `tag::frame`, where the check does not cover a struct that holds references at two
+// lifetimes of the signature.
 pub fn decide(pages: &Pages, tag: Tag, f: &[u8], random: &[u8], room: usize) -> Decision
     ensures { result ≡ decide pages.now.map tag pages.now.bytes.now f.now random.now room }
 {

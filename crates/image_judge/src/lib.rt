@@ -10,8 +10,9 @@ use memory::record::HIGHEST_FAILED;
 use model::Map;
 use sections::sizes;
 
-// Each section begins with the count of what it holds. The map and the bytes are passed apart, here and in `image_read`,
-// `image_write` and `image`: most functions use one map for what is read and for what is written, and a struct of both would be taken apart in each.
+// Each section begins with the count of what it holds.
+// The map and the bytes are passed apart, here and in `image_read`, `image_write` and `image`: two of these functions use the map for the store too, and a struct
+// for the other four would be a type more for a line in each.
 #[tactic(auto, unfolding(sections::specs::Sections::counts_right))]
 fn counts_right(map: Map, i: &[u8]) -> bool
     ensures { result ≡ counts_right map i.now }

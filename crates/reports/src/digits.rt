@@ -16,7 +16,7 @@ pub fn value(digit: u8) -> u8
     digits::digit(digit).unwrap_or(0)
 }
 
-// Byte k from byte start on of a text of digits, and 0 where the text has not both of its digits.
+// Byte k from byte start on of a text of digits, and 0 where the text has not both of its digits: `octet` alone would read a last digit that stands alone.
 #[tactic(auto, unfolding(crate::specs::Digits::octet_or_zero))]
 fn octet_or_zero(text: &[u8], start: usize, k: usize) -> u8
     ensures { result ≡ octet_or_zero text.now (start + k) }
