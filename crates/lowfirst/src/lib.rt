@@ -1,4 +1,4 @@
-// Numbers laid over a run of bytes low byte first, as the C form's record holds them.
+// Numbers laid over a run of bytes low byte first, as a counter is sent and as the C form's record holds them.
 #![tactic(auto)]
 
 ghost use Rattle.std.specs.Prelude.{◌≡◌, ◌≤◌, length};
