@@ -1,17 +1,20 @@
 #!/usr/bin/env python3
-"""Compares two tables of the documents with the tree, and the exports for C with the calls that they export.
+"""Compares three tables of the documents with the tree, and the exports for C with the calls that they export.
 
     host/docs/check.py    says each difference; the last line is 'N passed, M failed', and the exit status 0 only if nothing failed
 
 The must-fail table of docs/CLAIMS.md names exactly the edits crates/*/must-fail/*.edit. Its first column is 'crate/edit', and ', edit' for each further edit
 of the same crate. The table of docs/ARCHITECTURE.md has a row for each crate of crates.txt and no other; its column Uses has the crates of this
 repository that crates.txt gives for it, in that order. Libraries of the kit do not count. Each function of crates/kazdumera has the parameters, the
-result and the clauses of the function of its name in crates/tag_c, and hands its parameters on to it in their order. Python 3, no library.
+result and the clauses of the function of its name in crates/tag_c, and hands its parameters on to it in their order. The table of docs/CLAIMS.md with the columns
+Program or library and Needs has each program and library for C, and the names that `nm -u` gives for it, but for those that start any program; so a program that
+comes to rest on more of the C library is seen here. The programs are those that `rt ci` built. Python 3, no library.
 """
 
 import glob
 import os
 import re
+import subprocess
 import sys
 
 ROOT = os.path.dirname(os.path.dirname(os.path.dirname(os.path.abspath(__file__))))
@@ -120,6 +123,40 @@ def exports():
     return wrong + ["crates/kazdumera does not export `%s`" % name for name in sorted(set(calls) - set(exported))]
 
 
+# ---- names from outside
+
+# what starts a program, and what the kit's write goes by
+START_UP = {"__libc_start_main", "__sysv_signal", "__write", "__x86_get_cpuid_feature_leaf"}
+
+
+def undefined(path):
+    listed = subprocess.run(["nm", "-u", path], cwd=ROOT, capture_output=True, text=True, check=True).stdout
+    return set(re.findall(r"^ +U (\S+)$", listed, re.M))
+
+
+def built(name):
+    """The file of a program, or of a library lib*.a, which is built where it is not there."""
+    library = re.fullmatch(r"lib(\w+)\.a", name)
+    if not library:
+        path = os.path.join("crates", name, "out", name)
+        if not os.path.exists(os.path.join(ROOT, path)):
+            raise ValueError("%s is not there: rt ci builds it" % path)
+        return path
+    subprocess.run([os.path.join(ROOT, "host", "library.sh"), library[1]], check=True, capture_output=True)
+    return os.path.join("target", "staticlib", name)
+
+
+def outside():
+    wrong = []
+    for _, (name, needs) in table(lines_of("docs", "CLAIMS.md"), ["Program or library", "Needs"]):
+        named, needed = set(re.findall(r"`(\w+)`", needs)), undefined(built(name.strip("`")))
+        if not name.endswith(".a`"):
+            needed -= START_UP
+        wrong += ["%s needs %s" % (name, other) for other in sorted(needed - named)]
+        wrong += ["%s does not need %s" % (name, other) for other in sorted(named - needed)]
+    return wrong
+
+
 # ---- the count
 
 TESTS = [
@@ -127,6 +164,7 @@ TESTS = [
     ("the table of docs/ARCHITECTURE.md and crates.txt", architecture),
     ("crates.txt and the folders of crates/", folders),
     ("the exports of crates/kazdumera and the calls of crates/tag_c", exports),
+    ("the needs in docs/CLAIMS.md, and the programs and libraries", outside),
 ]
 
 
@@ -135,7 +173,7 @@ def main():
     for name, test in TESTS:
         try:
             wrong = test()
-        except (OSError, ValueError) as error:
+        except (OSError, ValueError, subprocess.CalledProcessError) as error:
             wrong = [str(error)]
         for message in wrong:
             print("    " + message)

@@ -5,10 +5,12 @@
 --     hex_text ds            two digits for each byte
 --     place_text k           a space and the place k, which is below 10; nothing for 0
 --     answer_text n k ds     the line that is printed for the number n, the place k and the data ds
+--     WrittenAt ..           a text was laid over a buffer from a place on, and where it ends
 --
 -- Assumes nothing.
-use Rattle.std.specs.Prelude.{List, [], ◌∷◌, ◌++◌, cond, ℕ, zero, suc, ◌+◌, ◌*◌, ◌/◌, ◌%◌, ltb, eqb, length, get_or, map}
+use Rattle.std.specs.Prelude.{◌≡◌, List, [], ◌∷◌, ◌++◌, cond, ℕ, zero, suc, ◌+◌, ◌*◌, ◌/◌, ◌%◌, ltb, eqb, length, get_or, map}
 use Rattle.std.specs.List.{range_with_len}
+use Rattle.std.proofs.lemmas.List.Edits.{sets}
 
 -- ASCII: 0 is 48, a is 97
 unfoldable pub letter_of : ℕ → ℕ
@@ -39,3 +41,7 @@ place_text (suc k) = 32 ∷ (48 + suc k) ∷ []
 -- a newline is 10
 unfoldable pub answer_text : ℕ → ℕ → List ℕ → List ℕ
 answer_text n k ds = number_text n ++ (place_text k ++ (data_text ds ++ (10 ∷ [])))
+
+pub record WrittenAt (before after : List ℕ) (at end : ℕ) (text : List ℕ) : Type 0 where
+  pub ends : end ≡ at + length text
+  pub bytes : after ≡ sets before at text

@@ -1,7 +1,7 @@
 // The text of an answer.
 ghost use Rattle.std.specs.Prelude.{◌≡◌, [], ◌∷◌, ◌++◌, ◌+◌, ◌*◌, ◌/◌, ◌%◌, ◌≤◌, ◌<◌, length};
 ghost use Rattle.arrayvec.specs.ArrayVec.{array_vec_len};
-ghost use Rattle.answers.specs.Answer.{letter_of, number_text, place_text, hex_text, data_text, answer_text};
+ghost use Rattle.answers.specs.Answer.{letter_of, number_text, place_text, hex_text, data_text, answer_text, WrittenAt};
 
 use arrayvec::ArrayVec;
 
@@ -79,7 +79,7 @@ fn put_data(text: &mut Text, bytes: &[u8])
 // The line for a number, a place and data, in place of what the text held. A place is a number, and no `Barred`: this crate knows no tag, and 0 prints
 // nothing, as the definition has it. A text that is returned is slower: the bench program took 7 % longer.
 #[tactic(auto, unfolding(crate::specs::Answer::answer_text))]
-pub fn answer(text: &mut Text, number: u8, place: u8, bytes: &[u8])
+pub fn answer_into(text: &mut Text, number: u8, place: u8, bytes: &[u8])
     requires place_bound { place < 10 }
     requires bytes_len_bound { length bytes.now ≤ 242 }
     ensures { text.new.items ≡ answer_text number place bytes.now }
@@ -89,4 +89,17 @@ pub fn answer(text: &mut Text, number: u8, place: u8, bytes: &[u8])
     put_place(text, place);
     put_data(text, bytes);
     text.push(b'\n');
+}
+
+// The same over the start of a buffer of any length, for a caller that has one; what passes its end is not stored. Returns how long the line is.
+pub fn answer(out: &mut [u8], number: u8, place: u8, bytes: &[u8]) -> usize
+    requires place_bound { place < 10 }
+    requires bytes_len_bound { length bytes.now ≤ 242 }
+    ensures written_at { WrittenAt out.old out.new 0 result (answer_text number place bytes.now) }
+    ensures upper_bound { result ≤ 490 }
+{
+    let mut text = ArrayVec::new();
+    answer_into(&mut text, number, place, bytes);
+    octets::lay(out, 0, &text);
+    text.len()
 }

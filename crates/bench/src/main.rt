@@ -3,9 +3,12 @@
 
 mod file;
 
-use answers::answer::answer;
+use answers::answer::answer_into;
 use arrayvec::ArrayVec;
 use std::env::Env;
+
+// Standard output.
+const STDOUT_FILENO: i32 = 1;
 
 // An image that is refused or can't be opened is answered by its number and nothing more. A name that is no UTF-8 can't be opened, nor can a missing one.
 // Where an answer can't be written there is nothing left to do.
@@ -18,9 +21,9 @@ fn main(rt: HostRuntime) {
     let loading = file::loaded(&rt, str::from_utf8(&name[..n]).unwrap_or(""), &mut store);
     if loading.number != 0 {
         let mut text = ArrayVec::new();
-        answer(&mut text, loading.number, 0, b"");
-        let _ = rt.write_all(&text);
+        answer_into(&mut text, loading.number, 0, b"");
+        io::write_all(STDOUT_FILENO, &text);
     } else {
-        let _ = input::play_input(&rt, loading.tag, &mut store);
+        input::play_input(&rt, loading.tag, &mut store);
     }
 }

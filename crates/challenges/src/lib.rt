@@ -29,6 +29,8 @@ fn challenge(pages: &Pages, tag: Tag, k: u8, random: [u8; 16]) -> Decision
 }
 
 // AUTHENTICATE, part 1.
+// Not inlined, as `deciding::command` says.
+#[inline(never)]
 pub fn authenticate(asked: &Asked) -> Result<Decision, RefusedFrame>
     requires { length asked.now.random.now ≡ 16 }
     ensures { decided asked.now.tag result ≡ commanded_of Authenticate asked.now }

@@ -13,6 +13,7 @@ use refusals::RefusedFrame;
 use refusals::asked::Asked;
 
 // INCR_CNT, 009 10.6.
+#[inline(always)]
 pub fn incr_cnt(asked: &Asked) -> Result<Decision, RefusedFrame>
     ensures { decided asked.now.tag result ≡ commanded_of IncrCnt asked.now }
 {
@@ -26,6 +27,7 @@ pub fn incr_cnt(asked: &Asked) -> Result<Decision, RefusedFrame>
 
 // HLTA, 009 Table 20.
 #[tactic(auto, unfolding(model::specs::Numbers::number_if))]
+#[inline(always)]
 pub fn halt(asked: &Asked) -> Result<Decision, RefusedFrame>
     ensures { decided asked.now.tag result ≡ commanded_of Halt asked.now }
 {

@@ -51,7 +51,8 @@ fn check_load(image: &[u8], store: &[u8]) -> Result<(), Refusal>
     refuse_if(!image_right(map, image), Refusal::NoImage)
 }
 
-// The pages of an image, over the whole store.
+// The pages of an image, over the whole store. By `octets::lay`: `copy_from_slice` would have C's linker look for memmove, which the library needs for nothing
+// else.
 #[tactic(auto, unfolding(model::specs::Image::store_of))]
 fn take_pages(map: Map, image: &[u8], store: &mut [u8])
     requires store_len { length store.old ≡ store_size map }
@@ -59,7 +60,7 @@ fn take_pages(map: Map, image: &[u8], store: &mut [u8])
     ensures { store.new ≡ store_of map image.now }
 {
     let end = sizes::counters_at(map);
-    store.copy_from_slice(&image[1..end]);
+    octets::lay(store, 0, &image[1..end]);
 }
 
 // 10 and 12 hand back the zero record and leave the store.

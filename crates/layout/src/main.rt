@@ -4,9 +4,10 @@
 
 mod pages;
 mod places;
+mod report;
 
-// Where a line can't be written there is nothing left to do.
-fn main(rt: HostRuntime) {
+fn main() {
     let map = image::mf0aes20();
-    let _ = places::print(&rt, map).and_then(|()| pages::print(&rt, map));
+    places::print(map);
+    pages::print(map);
 }

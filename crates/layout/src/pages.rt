@@ -1,8 +1,8 @@
 // The number of pages, and the page of each use.
+use crate::report::line;
 use model::Map;
-use std::io;
 
-pub fn print<R: Print>(rt: &R, map: Map) -> io::Result<()> {
+pub fn print(map: Map) {
     let lines = [
         ("pages", map.pages),
         ("page last", memory::sizes::last_page(map)),
@@ -17,7 +17,6 @@ pub fn print<R: Print>(rt: &R, map: Map) -> io::Result<()> {
         ("page key1", map.key1),
     ];
     for (name, page) in lines {
-        println!(rt; "{name} {page}")?;
+        line(name, &[usize::from(page)]);
     }
-    Ok(())
 }

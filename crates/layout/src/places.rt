@@ -1,23 +1,22 @@
 // The sections of an image: each line has the place of the section's count byte, how many bytes stand behind it, and the count byte that `save` writes.
+use crate::report::line;
 use image_read::zero_tag;
 use model::Map;
 use sections::sizes::{counters_at, failed_at, image_size, key_at};
-use std::io;
 
-pub fn print<R: Print>(rt: &R, map: Map) -> io::Result<()> {
+pub fn print(map: Map) {
     let image = saved();
-    println!(rt; "image {}", image_size(map))?;
+    line("image", &[image_size(map)]);
     let sections = [
-        ("pages", 0, counters_at(map)),
-        ("counters", counters_at(map), failed_at(map)),
-        ("failed", failed_at(map), key_at(map)),
-        ("originality", key_at(map), image_size(map)),
+        ("section pages", 0, counters_at(map)),
+        ("section counters", counters_at(map), failed_at(map)),
+        ("section failed", failed_at(map), key_at(map)),
+        ("section originality", key_at(map), image_size(map)),
     ];
     for (name, at, next) in sections {
         let size = next.saturating_sub(at + 1);
-        println!(rt; "section {name} {at} {size} {}", octets::at(&image, at))?;
+        line(name, &[at, size, usize::from(octets::at(&image, at))]);
     }
-    Ok(())
 }
 
 // The image of a tag that is all zero.

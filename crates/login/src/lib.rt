@@ -74,6 +74,8 @@ fn judge_answer(asked: &Asked) -> Result<Decision, RefusedFrame>
 }
 
 // AUTHENTICATE, part 2.
+// Not inlined, as `deciding::command` says.
+#[inline(never)]
 pub fn prove(asked: &Asked) -> Result<Decision, RefusedFrame>
     requires in_bounds { 1 ≤ length asked.now.frame.now }
     requires failed_bound { asked.now.tag.failed < 65535 }

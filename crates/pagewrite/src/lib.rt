@@ -72,6 +72,7 @@ fn pair_lock_opened(f: Masks) -> Quad
 }
 
 // The bits of each data byte that count in a write to page p, by the block-lock bits as they are before the write.
+#[inline(always)]
 #[tactic(auto, unfolding(model::specs::Writing::opened_of))]
 pub fn opened_of(pages: &Pages, p: u8) -> Quad
     ensures { result ≡ opened_of pages.now.map pages.now.bytes.now p }
@@ -87,6 +88,7 @@ pub fn opened_of(pages: &Pages, p: u8) -> Quad
 }
 
 // The four bytes of page p after a write of q.
+#[inline(always)]
 #[tactic(auto, unfolding(model::specs::Writing::written))]
 pub fn written(pages: &Pages, p: u8, q: Quad) -> Quad
     ensures { result ≡ written pages.now.map pages.now.bytes.now p q }

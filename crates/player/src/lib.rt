@@ -5,11 +5,12 @@ ghost use Rattle.std.specs.Prelude.{◌≡◌, [], ◌-◌, ◌≤◌, ◌<◌, 
 ghost use Rattle.crc.specs.CrcA.{with_crc};
 ghost use Rattle.model.specs.Writing.{barred_place};
 ghost use Rattle.script.specs.Line.{frame_bytes};
-ghost use Rattle.answers.specs.Answer.{answer_text};
+ghost use Rattle.answers.specs.Answer.{answer_text, WrittenAt};
 ghost use Rattle.script.specs.declared.line.Line.TheVariants.{Frame};
 ghost use Rattle.player.specs.Play.{next_count, random_of, heard_data, good_turn, bad_turn, turn_of, turn};
 
-use answers::answer::{Text, answer};
+use answers::answer::{Text, answer_into};
+use arrayvec::ArrayVec;
 use events::Answer;
 use model::{Reply, Tag};
 use numbers::barred_place;
@@ -49,7 +50,7 @@ fn event_turn(a: Answer, text: &mut Text) -> Tag
     ensures tag_value { result ≡ a.tag }
     ensures text_after { text.new.items ≡ answer_text a.number (barred_place a.reason) [] }
 {
-    answer(text, a.number, barred_place(a.reason), b"");
+    answer_into(text, a.number, barred_place(a.reason), b"");
     a.tag
 }
 
@@ -64,7 +65,7 @@ fn sent(tag: Tag, store: &mut [u8], line: &[u8], n: u8, count: u64, text: &mut T
     let mut reply = [0; 242];
     let a = tag::frame(tag, store, &space[..end], &random, &mut reply);
     let data = heard_data(a.reply, &reply);
-    answer(text, a.number, barred_place(a.reason), data);
+    answer_into(text, a.number, barred_place(a.reason), data);
     a.tag
 }
 
@@ -78,7 +79,13 @@ pub fn next_count(count: u64) -> u64
 // A line played: the record that is left, and the line's text. None where it is a bad line, which has no text, and leaves all as it was.
 // The record and the store are passed apart, as the calls of document 01 take them.
 #[tactic(auto, unfolding(crate::specs::Play::turn, model::specs::Calls::step))]
-pub fn play(tag: Tag, store: &mut [u8], line: &[u8], count: u64, text: &mut Text) -> Option<Tag>
+pub fn play_into(
+    tag: Tag,
+    store: &mut [u8],
+    line: &[u8],
+    count: u64,
+    text: &mut Text,
+) -> Option<Tag>
     ensures turn_value { let t = turn (record { tag = tag; store = store.old }) count line.now in
         MatchOption result (t ≡ bad_turn tag store.new) (λ next. t ≡ good_turn text.new.items next store.new) }
     ensures store_kept { IfNone result (store.new ≡ store.old) }
@@ -89,4 +96,38 @@ pub fn play(tag: Tag, store: &mut [u8], line: &[u8], count: u64, text: &mut Text
         Line::Select => event_turn(tag::select(tag), text),
         Line::Frame(n) => sent(tag, store, line, n, count, text),
     })
+}
+
+// What a line leaves: the record, how long its text is, and whether it is a bad line.
+#[derive(Clone, Copy)]
+pub struct Turn {
+    pub tag: Tag,
+    pub end: usize,
+    pub bad: bool,
+}
+
+// A line played, for a caller that has a buffer: its text is laid over the start. A bad line has none, and leaves all as it was.
+pub fn play(tag: Tag, store: &mut [u8], line: &[u8], count: u64, out: &mut [u8]) -> Turn
+    ensures tag_value { result.tag ≡ (turn (record { tag = tag; store = store.old }) count line.now).box.tag }
+    ensures bad_value { result.bad ≡ (turn (record { tag = tag; store = store.old }) count line.now).bad }
+    ensures end_bound { result.end ≤ 490 }
+    ensures written_at { WrittenAt out.old out.new 0 result.end (turn (record { tag = tag; store = store.old }) count line.now).text }
+    ensures store_after { store.new ≡ (turn (record { tag = tag; store = store.old }) count line.now).box.store }
+{
+    let mut text = ArrayVec::new();
+    match play_into(tag, store, line, count, &mut text) {
+        Some(next) => {
+            octets::lay(out, 0, &text);
+            Turn {
+                tag: next,
+                end: text.len(),
+                bad: false,
+            }
+        }
+        None => Turn {
+            tag,
+            end: 0,
+            bad: true,
+        },
+    }
 }

@@ -22,19 +22,26 @@ fn sent(tag: Tag, store: &mut [u8], line: &[u8], buffer: &mut [u8; SIZE]) -> Ans
     tag::frame(tag, store, &frame[..n], &random, buffer)
 }
 
-// The call of a line is made.
+// The call of a line is made. The first byte of its field tells which.
 fn called(tag: Tag, store: &mut [u8], line: &[u8], buffer: &mut [u8; SIZE]) -> Answer {
-    match field(line, 1) {
-        b"P" => tag::power(tag),
-        b"S" => tag::select(tag),
+    match octets::at(field(line, 1), 0) {
+        b'P' => tag::power(tag),
+        b'S' => tag::select(tag),
         _ => sent(tag, store, line, buffer),
     }
 }
 
-// The lines one after the other.
+// The lines one after the other. A `;` ends a line, so that there is none behind the last, and none in an empty text.
 fn played(name: &[u8], lines: &[u8], tag: Tag, store: &mut [u8]) -> Tag {
     let mut now = tag;
-    for line in lines.split(|b| *b == b';') {
+    if lines.is_empty() {
+        return now;
+    }
+    for line in lines
+        .strip_suffix(b";")
+        .unwrap_or(lines)
+        .split(|b| *b == b';')
+    {
         let mut buffer = [UNWRITTEN; SIZE];
         let got = called(now, store, line, &mut buffer);
         io::write_all(STDOUT_FILENO, name);

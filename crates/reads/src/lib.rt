@@ -12,6 +12,7 @@ use refusals::RefusedFrame;
 use refusals::asked::Asked;
 
 // READ, 009 10.2.
+#[inline(always)]
 pub fn read(asked: &Asked) -> Result<Decision, RefusedFrame>
     ensures { decided asked.now.tag result ≡ commanded_of Read asked.now }
 {
@@ -21,6 +22,7 @@ pub fn read(asked: &Asked) -> Result<Decision, RefusedFrame>
 }
 
 // FAST_READ, 009 10.3.
+#[inline(always)]
 pub fn fast_read(asked: &Asked) -> Result<Decision, RefusedFrame>
     ensures { decided asked.now.tag result ≡ commanded_of FastRead asked.now }
 {
@@ -31,6 +33,7 @@ pub fn fast_read(asked: &Asked) -> Result<Decision, RefusedFrame>
 }
 
 // READ_CNT, 009 10.5.
+#[inline(always)]
 pub fn read_cnt(asked: &Asked) -> Result<Decision, RefusedFrame>
     ensures { decided asked.now.tag result ≡ commanded_of ReadCnt asked.now }
 {

@@ -1,5 +1,6 @@
 -- What is said, as data and its CRC_A.
 --
+--   no-data      silence and a nibble lay nothing over the buffer
 --   of-bytes     a saying that is a window, a range, a count or a block has bytes
 --   data-said    every other saying is its data with CRC_A
 --   data-size    and that is as long as `said_size` says
@@ -14,6 +15,7 @@ use lib.ListN.{length}
 use mathlib.Core.Bool.{Bool, true, false}
 use mathlib.Core.Logic.{◌⊎◌, inl, inr}
 use Rattle.crc.specs.CrcA.{with_crc}
+use Rattle.framing.specs.Laid.{Laid}
 use Rattle.model.specs.declared.Map.{Map}
 use Rattle.model.specs.declared.Tag.{Tag}
 use Rattle.model.specs.declared.Say.{Say}
@@ -45,6 +47,15 @@ of-bytes y (inr (inr (inl w))) = rw w.1
 of-bytes y (inr (inr (inr w))) = rw w.1
 
 module _ (m : Map) (tag : Tag) (s block : List ℕ) where
+  pub no-data : (l : List ℕ) (y : Say) → has_bytes y ≡ false → Laid l l 0 (data_of m tag s block y)
+  unfolding data_of
+  no-data l Silence k = record { count = refl; bytes = refl }
+  no-data l (Nibble n) k = record { count = refl; bytes = refl }
+  no-data l (Window p) k = absurd (cc k)
+  no-data l (Range p q) k = absurd (cc k)
+  no-data l (Count n) k = absurd (cc k)
+  no-data l (Block b) k = absurd (cc k)
+
   pub data-said : (y : Say) → has_bytes y ≡ true
       → said_of m tag s block y ≡ bytes (with_crc (data_of m tag s block y))
   unfolding said_of data_of

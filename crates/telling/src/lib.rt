@@ -49,7 +49,7 @@ pub fn told(code: u8) -> Option<(Command, u8)>
     }
 }
 
-// The code byte of a command: its discriminant. No program asks for it; it states that the discriminants are the code bytes.
+// The code byte of a command: its discriminant.
 pub fn code_of(c: Command) -> u8
     ensures { result ≡ code_of c }
 {
@@ -61,7 +61,7 @@ pub fn code_of(c: Command) -> u8
 pub fn allowed(st: State, c: Command) -> bool
     ensures { result ≡ allowed st c }
 {
-    record::is_challenged(st) == matches!(c, Command::Proof)
+    record::is_challenged(st) == (code_of(c) == code_of(Command::Proof))
 }
 
 // The command that a code tells, or why it is refused: the code is unknown or not allowed now, or the frame has another length n.

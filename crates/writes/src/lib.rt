@@ -11,6 +11,7 @@ use refusals::RefusedFrame;
 use refusals::asked::Asked;
 
 // WRITE, 009 10.4. The rule that stops it gives the number, and is passed up.
+#[inline(always)]
 pub fn write(asked: &Asked) -> Result<Decision, RefusedFrame>
     ensures { decided asked.now.tag result ≡ commanded_of Write asked.now }
 {

@@ -9,7 +9,7 @@ pub returns : goal.returns
 returns c =
     let a = c.args in
     let h = c.frame-a.ensures in
-    let text = c.answer.ensures ∙ (λ i. answer_text c.frame-a.result.number (c.barred_place.ensures.value i) (c.heard_data-data.ensures i)) in
+    let text = c.answer_into.ensures ∙ (λ i. answer_text c.frame-a.result.number (c.barred_place.ensures.value i) (c.heard_data-data.ensures i)) in
     sent-turn a.tag a.store.now a.line.now a.n a.count _ c.random_of-random.result (replicate 242 0) _ _
-    c.answer.new.text.items c.frame-a.result c.frame_of-end.ensures.frame_after c.random_of-random.ensures refl
+    c.answer_into.new.text.items c.frame-a.result c.frame_of-end.ensures.frame_after c.random_of-random.ensures refl
     h.number_value h.reply_value h.reason_value h.tag_value h.store_after h.reply_after text

@@ -1,0 +1,2 @@
+-- What a frame comes to.
+pub mod Refused
