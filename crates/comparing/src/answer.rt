@@ -51,6 +51,7 @@ impl Told {
         let (kind, amount) = match self.reply {
             Reply::Silence => ("silence", 0),
             Reply::Nibble(nibble) => ("nibble", u64::from(nibble)),
+            // a number of bytes that no reply has is told as 255
             Reply::Bytes(count) => ("bytes", count.min(255) as u64),
         };
         io::write_all(STDOUT_FILENO, kind.as_bytes());

@@ -62,18 +62,16 @@ static PAIR_FREEZE: [Masks; 6] = [
 fn frozen(rows: &[Masks], b: u8) -> Masks
     ensures { result ≡ frozen rows.now b }
 {
-    let Some((row, others)) = rows.split_first() else {
-        return NOTHING;
-    };
-    let rest = frozen(others, b / 2);
-    if bit_set(0, b.into()) {
-        Masks {
-            first: row.first | rest.first,
-            second: row.second | rest.second,
+    let mut masks = NOTHING;
+    let mut bits = b;
+    for row in rows {
+        if bit_set(0, bits.into()) {
+            masks.first |= row.first;
+            masks.second |= row.second;
         }
-    } else {
-        rest
+        bits /= 2;
     }
+    masks
 }
 
 // What the block-lock bits of lock byte 0 freeze.

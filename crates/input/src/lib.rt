@@ -80,9 +80,12 @@ impl Script<'_> {
     }
 }
 
-// What is read is played, until the input or the script ends.
+// What is read is played, until the input or the script ends. Nothing is gathered where a reading begins, nor where it ends.
 // A proved loop has to end, and nothing says that an input does. So it counts its turns, up to a number that no run comes to.
-fn play_all<R: Read>(reader: &mut R, script: &mut Script) -> Result<(), Over> {
+fn play_all<R: Read>(reader: &mut R, script: &mut Script) -> Result<(), Over>
+    requires { script.old.gathered.text.items ≡ [] }
+    ensures { script.new.gathered.text.items ≡ [] }
+{
     let mut chunk = [0; 65536];
     for _ in 0..u64::MAX {
         match reader.read(&mut chunk).map_err(|_| Over::Unread)? {
@@ -93,8 +96,8 @@ fn play_all<R: Read>(reader: &mut R, script: &mut Script) -> Result<(), Over> {
     Ok(())
 }
 
-// Plays what is read, until the input or the script ends. A reading that fails ends the script; what is held of a line is not played then. Why it ended is
-// in what was written, and nothing is left to do.
+// Plays what is read, until the input or the script ends. A reading that fails ends the script; what is held of a line is not played then. A bad line
+// is in what was written; of a reading or a writing that failed nothing is told, and nothing is left to do.
 pub fn play_input<R: Input>(rt: &R, tag: Tag, store: &mut [u8]) {
     let mut script = Script {
         store,

@@ -1,4 +1,5 @@
 // A line of the table. By `io`: std's printing would rest on one more function of the C library, and end the table at a line that can't be written.
+
 // Standard output.
 const STDOUT_FILENO: i32 = 1;
 

@@ -87,7 +87,7 @@ pub fn opened_of(pages: &Pages, p: u8) -> Quad
     }
 }
 
-// The four bytes of page p after a write of q.
+// The four bytes of page p after a write of q. Inlined, as `opened_of` is: they are lent what `deciding::command` is.
 #[inline(always)]
 #[tactic(auto, unfolding(model::specs::Writing::written))]
 pub fn written(pages: &Pages, p: u8, q: Quad) -> Quad

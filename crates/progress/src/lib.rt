@@ -48,7 +48,8 @@ impl Gathered {
         }
     }
 
-    // What was gathered is written. A write that fails ends the script, so that no answer is missing before another.
+    // What was gathered is written. A write that fails ends the script, so that no answer is missing before another; a bad line that comes next is still told
+    // (docs/DECISIONS.md, D81).
     pub fn write(&mut self) -> Result<(), Over>
         ensures { self.new.text.items ≡ [] }
     {
@@ -98,8 +99,8 @@ impl Progress {
         Progress { tag, count: 0 }
     }
 
-    // A whole line is played, where there is room for its text; one that finds none because what is gathered can't be written ends the script, as a bad one does.
-    // Where a script ends nothing gathered is left.
+    // A whole line is played. Where what is gathered can't be written to make room, its text is dropped and the script ends, as at a bad one; nothing gathered is
+    // left then.
     pub fn play_line(
         &mut self,
         store: &mut [u8],
