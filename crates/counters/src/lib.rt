@@ -15,7 +15,9 @@ use numbers::{Refusal, refuse_if};
 pub fn counter(tag: Tag, n: u8) -> u32
     ensures { result ≡ counter tag n }
 {
-    tag.counters.get(usize::from(n)).copied().unwrap_or(0)
+    // the three by themselves: of `tag` the whole record would lie in memory to be looked up in
+    let counters = tag.counters;
+    counters.get(usize::from(n)).copied().unwrap_or(0)
 }
 
 // Counter 2 needs AUTHENTICATED, unless its setting opens it.
