@@ -97,7 +97,7 @@ fn play_all<R: Read>(reader: &mut R, script: &mut Script) -> Result<(), Over>
 }
 
 // Plays what is read, until the input or the script ends. A reading that fails ends the script; what is held of a line is not played then. A bad line
-// is in what was written; of a reading or a writing that failed nothing is told, and nothing is left to do.
+// is told in what is written, where that can be written; of a reading or a writing that failed nothing is told, and nothing is left to do.
 pub fn play_input<R: Input>(rt: &R, tag: Tag, store: &mut [u8]) {
     let mut script = Script {
         store,
