@@ -62,6 +62,8 @@ fn checked(
 }
 
 // What a frame comes to. What a command is given is put together for it alone, so that a frame that is refused before costs no more than its checks.
+// Its parts are passed apart. Tried: an `Asked` made in `tag::frame`, where the check does not cover a struct that holds references at two lifetimes of the
+// signature.
 pub fn decide(pages: &Pages, tag: Tag, f: &[u8], random: &[u8], room: usize) -> Decision
     ensures { result ≡ decide pages.now.map tag pages.now.bytes.now f.now random.now room }
 {
